@@ -1,0 +1,45 @@
+// Reads a store on standard input and writes how many devices it holds, or -16 where it is damaged, -2 where it is not
+// 36,864 bytes long.
+use libc::STDIN_FILENO;
+use libc::STDOUT_FILENO;
+use usb_device::device::first_unused;
+use usb_device::store::STORE_LEN;
+use usb_sound::sound;
+ghost use mathlib.Core.Path.{_≡_};
+ghost use Rattle.storecheck.specs.Verdict.{verdictOf};
+
+enum Verdict {
+    Devices(usize),
+    Damaged,
+    WrongLength,
+}
+
+fn judge(store: &[u8]) -> Verdict
+    ensures { λ r. ⌜ r ≡ verdictOf (now (store .entry)) ⌝ }
+{
+    if store.len() != STORE_LEN {
+        return Verdict::WrongLength;
+    }
+    if !sound(store) {
+        return Verdict::Damaged;
+    }
+    Verdict::Devices(first_unused(store))
+}
+
+fn main() {
+    let mut buffer = io::large_buffer();
+    let n = io::read_full(STDIN_FILENO, &mut buffer);
+    match judge(&buffer[..n]) {
+        Verdict::Devices(devices) => {
+            io::write_all(STDOUT_FILENO, b"sound, devices: ");
+            io::print_decimal(STDOUT_FILENO, devices as u64);
+            io::write_all(STDOUT_FILENO, b"\n");
+        }
+        Verdict::Damaged => {
+            io::write_all(STDOUT_FILENO, b"-16\n");
+        }
+        Verdict::WrongLength => {
+            io::write_all(STDOUT_FILENO, b"-2\n");
+        }
+    }
+}

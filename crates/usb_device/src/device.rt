@@ -1,0 +1,81 @@
+// device.rs: a new device, and the first place that is not used.
+use crate::store::CONFIGURATION_INDEX;
+use crate::store::MAX_PACKET_SIZE0;
+use crate::store::NUMBER;
+use crate::store::PLACE_LEN;
+use crate::store::PLACES;
+use crate::store::SPEED;
+use crate::store::USED;
+use crate::store::byte_at;
+use crate::store::set_bytes;
+ghost use mathlib.Core.Path.{_≡_};
+ghost use Prim.Native.Nat.{_+_, _*_, _≤_, _<_};
+ghost use lib.ListN.{length};
+ghost use Rattle.usb_device.specs.Layout.{Places, PlaceLength, StoreLength};
+ghost use Rattle.usb_device.specs.Access.{withBytes};
+ghost use Rattle.usb_device.specs.Device.{firstUnused, newDevice, marked};
+
+// UsbSpeed.
+pub const HIGH: u8 = 0;
+
+pub const FULL: u8 = 1;
+
+pub const LOW: u8 = 2;
+
+// UsbDeviceStatus.
+pub const ATTACHED: u8 = 0;
+
+pub const POWERED: u8 = 1;
+
+pub const DEFAULT: u8 = 2;
+
+pub const ADDRESSED: u8 = 3;
+
+pub const CONFIGURED: u8 = 4;
+
+// The first place that is not used, or 32.
+pub fn first_unused(store: &[u8]) -> usize
+    requires { ⌜ length (now store) ≡ StoreLength ⌝ }
+    ensures { λ r. ⌜ (r ≡ firstUnused (now (store .entry))) × (r ≤ Places) ⌝ }
+{
+    let mut place = 0;
+    while place < PLACES {
+        if byte_at(store, place, USED) == 0 {
+            return place;
+        }
+        place += 1;
+    }
+    PLACES
+}
+
+// Sets n bytes to 1, one every step bytes from first on: the types of n descriptors.
+fn mark(bytes: &mut [u8; PLACE_LEN], first: usize, step: usize, n: usize)
+    requires { ⌜ (first + n * step < PlaceLength) × (n ≤ 128) × (step < 16) ⌝ }
+    ensures { λ _. ⌜ now (bytes .exit) ≡ marked (now (bytes .entry)) first step n ⌝ }
+{
+    let mut i = 0;
+    while i < n {
+        bytes[first + i * step] = 1;
+        i += 1;
+    }
+}
+
+// UsbDevice::new as UsbAllocateDevice amends it, at a place.
+pub fn put_new_device(store: &mut [u8], place: usize)
+    requires { ⌜ (length (now store) ≡ StoreLength) × (place < Places) ⌝ }
+    ensures { λ _. ⌜ now (store .exit) ≡ withBytes (now (store .entry)) place 0 (newDevice place) ⌝ }
+{
+    let mut bytes = [0u8; PLACE_LEN];
+    bytes[USED] = 1;
+    bytes[NUMBER] = (place + 1) as u8;
+    bytes[SPEED] = FULL;
+    bytes[CONFIGURATION_INDEX] = 255;
+    // The device descriptor's type and class, and the configuration descriptor's type, by Default.
+    bytes[17] = 1;
+    bytes[20] = 9;
+    bytes[MAX_PACKET_SIZE0] = 8;
+    bytes[35] = 1;
+    mark(&mut bytes, 129, 9, 8);
+    mark(&mut bytes, 201, 7, 128);
+    set_bytes(store, place, 0, &bytes);
+}

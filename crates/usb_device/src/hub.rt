@@ -1,0 +1,106 @@
+// hcd/hub.rs: a hub's ten ports, by value.
+use crate::store::CHILDREN;
+use crate::store::MAX_CHILDREN;
+use crate::store::PORT_STATUS;
+use crate::store::PORTS;
+use crate::store::byte_at;
+use crate::store::set_byte;
+use crate::store::set_bytes;
+use crate::store::set_u32;
+use crate::store::u32_at;
+ghost use mathlib.Core.Path.{_≡_};
+ghost use Prim.Native.Nat.{_<_};
+ghost use lib.ListN.{length};
+ghost use Rattle.usb_device.specs.Layout.{Places, StoreLength};
+ghost use Rattle.usb_device.specs.Ports.{hubAt, withStatuses, withHub, newHub};
+
+// What the ports' functions read of a hub: bytes 56 to 106 of its place.
+pub struct HubDevice {
+    pub port_status: [u32; 10],
+    pub children: [u8; 10],
+    pub max_children: u8,
+}
+
+impl HubDevice {
+    pub fn new() -> Self
+        ensures { λ r. ⌜ r ≡ newHub ⌝ }
+    {
+        HubDevice {
+            port_status: [0; 10],
+            children: [0; 10],
+            max_children: 1,
+        }
+    }
+}
+
+fn load_statuses(store: &[u8], place: usize) -> [u32; 10]
+    requires { ⌜ (length (now store) ≡ StoreLength) × (place < Places) ⌝ }
+    ensures { λ r. ⌜ r ≡ hubAt (now (store .entry)) place .«port_status» ⌝ }
+{
+    [
+        u32_at(store, place, 56),
+        u32_at(store, place, 60),
+        u32_at(store, place, 64),
+        u32_at(store, place, 68),
+        u32_at(store, place, 72),
+        u32_at(store, place, 76),
+        u32_at(store, place, 80),
+        u32_at(store, place, 84),
+        u32_at(store, place, 88),
+        u32_at(store, place, 92),
+    ]
+}
+
+fn load_children(store: &[u8], place: usize) -> [u8; 10]
+    requires { ⌜ (length (now store) ≡ StoreLength) × (place < Places) ⌝ }
+    ensures { λ r. ⌜ r ≡ hubAt (now (store .entry)) place .children ⌝ }
+{
+    [
+        byte_at(store, place, 96),
+        byte_at(store, place, 97),
+        byte_at(store, place, 98),
+        byte_at(store, place, 99),
+        byte_at(store, place, 100),
+        byte_at(store, place, 101),
+        byte_at(store, place, 102),
+        byte_at(store, place, 103),
+        byte_at(store, place, 104),
+        byte_at(store, place, 105),
+    ]
+}
+
+pub fn load_hub(store: &[u8], place: usize) -> HubDevice
+    requires { ⌜ (length (now store) ≡ StoreLength) × (place < Places) ⌝ }
+    ensures { λ r. ⌜ r ≡ hubAt (now (store .entry)) place ⌝ }
+{
+    let port_status = load_statuses(store, place);
+    let children = load_children(store, place);
+    let max_children = byte_at(store, place, MAX_CHILDREN);
+    HubDevice {
+        port_status,
+        children,
+        max_children,
+    }
+}
+
+fn store_statuses(store: &mut [u8], place: usize, statuses: [u32; 10])
+    requires { ⌜ (length (now store) ≡ StoreLength) × (place < Places) ⌝ }
+    ensures { λ _. ⌜ now (store .exit) ≡ withStatuses (now (store .entry)) place 0 statuses ⌝ }
+{
+    let mut port = 0;
+    while port < PORTS {
+        set_u32(store, place, PORT_STATUS + 4 * port, statuses[port]);
+        port += 1;
+    }
+}
+
+pub fn store_hub(store: &mut [u8], place: usize, hub: HubDevice)
+    requires { ⌜ (length (now store) ≡ StoreLength) × (place < Places) ⌝ }
+    ensures { λ _. ⌜ now (store .exit) ≡ withHub (now (store .entry)) place hub ⌝ }
+{
+    let statuses = hub.port_status;
+    store_statuses(store, place, statuses);
+    let children = hub.children;
+    set_bytes(store, place, CHILDREN, &children);
+    set_byte(store, place, MAX_CHILDREN, hub.max_children);
+}

@@ -1,0 +1,6 @@
+pub mod Tests
+pub mod Steps
+pub mod Rules
+pub mod Marks
+pub mod Decides
+pub mod Hubs

@@ -1,0 +1,47 @@
+// The sound store (document 01, "A sound store: .."). The leading used places are counted, all bytes after them are zero,
+// each of them keeps the rules by itself, and their children are marked, so that each is seen exactly once.
+mod children;
+mod place;
+
+use children::tree_sound;
+use place::lead_of;
+use place::places_sound;
+use place::zero;
+use usb_device::store::PARENT;
+use usb_device::store::PLACE_LEN;
+use usb_device::store::STORE_LEN;
+use usb_device::store::byte_at;
+ghost use mathlib.Core.Path.{_≡_};
+ghost use Prim.Native.Nat.{_≤_};
+ghost use lib.ListN.{length};
+ghost use Rattle.usb_device.specs.Layout.{Places, StoreLength};
+ghost use Rattle.usb_sound.specs.Sound.{Sound, Decides};
+ghost use Rattle.usb_sound.specs.Test.{storeSound, sound};
+
+// The rules on a whole store whose first n places are used, and the next is not.
+fn store_sound(store: &[u8], n: usize) -> bool
+    requires { ⌜ (length (now store) ≡ StoreLength) × (n ≤ Places) ⌝ }
+    ensures { λ r. ⌜ r ≡ storeSound (now (store .entry)) n ⌝ }
+{
+    let start = n * PLACE_LEN;
+    if !zero(&store[start..]) {
+        return false;
+    }
+    if byte_at(store, 0, PARENT) != 0 {
+        return false;
+    }
+    if !places_sound(store, n) {
+        return false;
+    }
+    tree_sound(store, n)
+}
+
+// Is the store sound? A slice of another length than 36,864 is not.
+pub fn sound(store: &[u8]) -> bool
+    ensures { λ r. ⌜ (r ≡ sound (now (store .entry))) × Decides r (Sound (now (store .entry))) ⌝ }
+{
+    if store.len() != STORE_LEN {
+        return false;
+    }
+    store_sound(store, lead_of(store))
+}

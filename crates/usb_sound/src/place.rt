@@ -1,0 +1,146 @@
+// The rules that each place keeps by itself.
+use usb_device::store::ERROR;
+use usb_device::store::HUB;
+use usb_device::store::MAX_CHILDREN;
+use usb_device::store::NUMBER;
+use usb_device::store::PLACES;
+use usb_device::store::SPEED;
+use usb_device::store::STATUS;
+use usb_device::store::USED;
+use usb_device::store::byte_at;
+use usb_device::store::bytes_at;
+use usb_device::store::u32_at;
+ghost use mathlib.Core.Path.{_≡_};
+ghost use Prim.Native.Nat.{_≤_, _<_};
+ghost use lib.ListN.{length};
+ghost use Rattle.usb_device.specs.Layout.{Places, StoreLength};
+ghost use Rattle.usb_device.specs.Access.{Within, byteAt, bytesAt};
+ghost use Rattle.usb_sound.specs.Sound.{errors};
+ghost use Rattle.usb_sound.specs.Test.{zeros, oneOf, every, lead, fieldsSound, hubSound, placeSound};
+
+// All bytes are zero. The loop has no early exit, so that it is compiled to vector instructions.
+pub fn zero(s: &[u8]) -> bool
+    ensures { λ r. ⌜ r ≡ zeros (now (s .entry)) ⌝ }
+{
+    let mut all: u8 = 0;
+    let mut i = 0;
+    while i < s.len() {
+        all = all | s[i];
+        i += 1;
+    }
+    all == 0
+}
+
+// The n bytes of a place from field on are zero.
+fn zero_at(store: &[u8], place: usize, field: usize, n: usize) -> bool
+    requires { ⌜ Within (now store) place field n ⌝ }
+    ensures { λ r. ⌜ r ≡ zeros (bytesAt (now (store .entry)) place field n) ⌝ }
+{
+    zero(bytes_at(store, place, field, n))
+}
+
+fn wide(b: u8) -> usize
+    ensures { λ r. ⌜ r ≡ b ⌝ }
+{
+    b as usize
+}
+
+// A byte that is a place's or a port's number.
+pub fn count_at(store: &[u8], place: usize, field: usize) -> usize
+    requires { ⌜ Within (now store) place field 1 ⌝ }
+    ensures { λ r. ⌜ r ≡ byteAt (now (store .entry)) place field ⌝ }
+{
+    wide(byte_at(store, place, field))
+}
+
+// How many places are used before the first that is not.
+pub fn lead_of(store: &[u8]) -> usize
+    requires { ⌜ length (now store) ≡ StoreLength ⌝ }
+    ensures { λ r. ⌜ (r ≡ lead (now (store .entry))) × (r ≤ Places) ⌝ }
+{
+    let mut p = 0;
+    while p < PLACES {
+        if byte_at(store, p, USED) != 1 {
+            return p;
+        }
+        p += 1;
+    }
+    PLACES
+}
+
+// A value of UsbTransferError.
+fn error_listed(e: u32) -> bool
+    ensures { λ r. ⌜ r ≡ oneOf e errors ⌝ }
+{
+    match e {
+        0 | 2 | 4 | 8 | 16 | 32 | 64 | 128 | 256 | 512 | 2147483648 => true,
+        _ => false,
+    }
+}
+
+// Number, speed, status, MaxChildren and error hold listed values.
+fn fields_sound(store: &[u8], p: usize) -> bool
+    requires { ⌜ (length (now store) ≡ StoreLength) × (p < Places) ⌝ }
+    ensures { λ r. ⌜ r ≡ fieldsSound (now (store .entry)) p ⌝ }
+{
+    let number = count_at(store, p, NUMBER);
+    if number != 0 {
+        if number != p + 1 {
+            return false;
+        }
+    }
+    if byte_at(store, p, SPEED) > 2 {
+        return false;
+    }
+    if byte_at(store, p, STATUS) > 4 {
+        return false;
+    }
+    if byte_at(store, p, MAX_CHILDREN) > 10 {
+        return false;
+    }
+    error_listed(u32_at(store, p, ERROR))
+}
+
+// The hub byte h is listed, and the bytes that it leaves unused are zero.
+fn hub_sound(store: &[u8], p: usize, h: u8) -> bool
+    requires { ⌜ (length (now store) ≡ StoreLength) × (p < Places) ⌝ }
+    ensures { λ r. ⌜ r ≡ hubSound (now (store .entry)) p h ⌝ }
+{
+    match h {
+        0 => zero_at(store, p, 43, 64),
+        1 => zero_at(store, p, 43, 9),
+        2 => true,
+        _ => false,
+    }
+}
+
+fn place_sound(store: &[u8], p: usize) -> bool
+    requires { ⌜ (length (now store) ≡ StoreLength) × (p < Places) ⌝ }
+    ensures { λ r. ⌜ r ≡ placeSound (now (store .entry)) p ⌝ }
+{
+    if !fields_sound(store, p) {
+        return false;
+    }
+    if !hub_sound(store, p, byte_at(store, p, HUB)) {
+        return false;
+    }
+    if !zero_at(store, p, 107, 21) {
+        return false;
+    }
+    zero_at(store, p, 1096, 56)
+}
+
+// The first n places.
+pub fn places_sound(store: &[u8], n: usize) -> bool
+    requires { ⌜ (length (now store) ≡ StoreLength) × (n ≤ Places) ⌝ }
+    ensures { λ r. ⌜ r ≡ every (placeSound (now (store .entry))) 0 n ⌝ }
+{
+    let mut p = 0;
+    while p < n {
+        if !place_sound(store, p) {
+            return false;
+        }
+        p += 1;
+    }
+    true
+}

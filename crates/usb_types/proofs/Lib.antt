@@ -1,0 +1,3 @@
+pub mod LittleEndian
+pub mod Table
+pub mod Directions

@@ -1,0 +1,129 @@
+//! Outcomes written by hand, for bench lines and tests.
+
+/// A list of outcomes, added one at a time.
+#[derive(Clone, Default)]
+pub struct Script(pub Vec<u8>);
+
+impl Script {
+    pub fn new() -> Script {
+        Script::default()
+    }
+
+    /// Any outcome: submit code, error and data.
+    pub fn outcome(mut self, code: u8, error: u8, data: &[u8]) -> Script {
+        let length = u16::try_from(data.len()).expect("a length of two bytes");
+        self.0.extend([code, error]);
+        self.0.extend(length.to_le_bytes());
+        self.0.extend(data);
+        self
+    }
+
+    /// A request that succeeds and delivers these bytes.
+    pub fn gives(self, data: &[u8]) -> Script {
+        self.outcome(0, 0, data)
+    }
+
+    /// A request without data that is acknowledged.
+    pub fn done(self) -> Script {
+        self.gives(&[])
+    }
+
+    /// So many acknowledged requests without data.
+    pub fn done_times(self, times: usize) -> Script {
+        (0..times).fold(self, |script, _| script.done())
+    }
+
+    /// The same outcome several times.
+    pub fn gives_times(self, times: usize, data: &[u8]) -> Script {
+        (0..times).fold(self, |script, _| script.gives(data))
+    }
+
+    pub fn then(mut self, other: Script) -> Script {
+        self.0.extend(other.0);
+        self
+    }
+}
+
+/// A device descriptor of 18 bytes with packet size 64.
+pub const DEVICE: [u8; 18] = [
+    18, 1, 0x00, 0x02, 9, 0, 0, 64, 0x24, 0x04, 0x12, 0x24, 0x00, 0x01, 0, 0, 0, 1,
+];
+
+/// A hub's configuration: interface 0 of class 9 with one interrupt endpoint.
+pub const HUB_CONFIGURATION: [u8; 25] = [
+    9, 2, 25, 0, 1, 1, 0, 0xe0, 0, // configuration, value 1
+    9, 4, 0, 0, 1, 9, 0, 0, 0, // interface 0
+    7, 5, 0x81, 3, 1, 0, 12, // endpoint 1 in
+];
+
+/// A keyboard's configuration: class 3, a HID descriptor and an endpoint.
+pub const KEYBOARD_CONFIGURATION: [u8; 34] = [
+    9, 2, 34, 0, 1, 7, 0, 0xa0, 50, // configuration, value 7
+    9, 4, 0, 0, 1, 3, 1, 1, 0, // interface 0
+    9, 33, 0x11, 0x01, 0, 1, 34, 63, 0, // HID
+    7, 5, 0x81, 3, 8, 0, 10, // endpoint 1 in
+];
+
+/// A hub descriptor of 9 bytes.
+pub fn hub_descriptor(ports: u8, power_good_delay: u8) -> [u8; 9] {
+    [9, 41, ports, 0, 0, power_good_delay, 0, 0, 0xff]
+}
+
+/// Port status and change words.
+pub fn port(status: u16, change: u16) -> [u8; 4] {
+    let [a, b] = status.to_le_bytes();
+    let [c, d] = change.to_le_bytes();
+    [a, b, c, d]
+}
+
+/// An attach at high speed, up to the acknowledged SetConfiguration.
+pub fn attach(configuration: &[u8]) -> Script {
+    Script::new()
+        .gives(&DEVICE)
+        .done()
+        .gives(&DEVICE)
+        .gives(&configuration[..9])
+        .gives(configuration)
+        .done()
+}
+
+/// A hub's attach up to the status read after its ports were powered.
+pub fn hub_attach(ports: u8, power_good_delay: u8) -> Script {
+    let descriptor = hub_descriptor(ports, power_good_delay);
+    attach(&HUB_CONFIGURATION)
+        .gives(&descriptor[..2])
+        .gives(&descriptor)
+        .gives(&[0; 4])
+        .done_times(usize::from(ports.min(10)))
+        .gives(&[0; 4])
+}
+
+/// A connection change up to the end of a reset whose first read shows the
+/// change: what follows is the allocation.
+pub fn connection_reset(status: u16) -> Script {
+    Script::new()
+        .gives(&port(status, 1))
+        .done()
+        .gives(&port(status, 0))
+        .done()
+        .done()
+        .gives(&port(status, 0x10))
+        .done()
+}
+
+/// A connection change up to the status read after the allocation.
+pub fn connection(status: u16) -> Script {
+    connection_reset(status).gives(&port(status, 0))
+}
+
+/// Connected, enabled, powered, high speed.
+pub const HIGH: u16 = 0x503;
+
+/// A root hub of `ports` ports with a keyboard on port 0, all else empty.
+pub fn root_with_keyboard(ports: u8) -> Script {
+    hub_attach(ports, 1)
+        .gives(&port(HIGH, 1))
+        .then(connection(HIGH))
+        .then(attach(&KEYBOARD_CONFIGURATION))
+        .gives_times(usize::from(ports) - 1, &port(0x100, 0))
+}
