@@ -8,20 +8,17 @@ use crate::script::*;
 use crate::vectors::RecordedCall;
 
 const LOG: u32 = 1024;
-const OTHERS: [Entry; 6] = [
-    Entry::Scan,
-    Entry::PortCheck,
-    Entry::ChildReset,
-    Entry::ChildCheck,
-    Entry::RetriedReset,
-    Entry::ConnectionChange,
-];
 const WITH_PORT: [Entry; 3] = [
     Entry::PortCheck,
     Entry::RetriedReset,
     Entry::ConnectionChange,
 ];
 const WITH_CHILD: [Entry; 2] = [Entry::ChildReset, Entry::ChildCheck];
+
+/// Every entry point that takes a hub.
+fn others() -> impl Iterator<Item = Entry> {
+    Entry::ALL.into_iter().skip(1)
+}
 
 /// A call without outcomes on whole stores; sums and requests are left open.
 fn call(entry: Entry, first: u32, second: u32, answer: i32) -> RecordedCall {
@@ -86,7 +83,7 @@ fn on_the_empty_store() -> Vec<RecordedCall> {
         root(4, -2).edited(&[(0, 2)]),
         root(0, -16).edited(&[(STORE - 1, 1)]),
     ];
-    calls.extend(OTHERS.map(|entry| call(entry, 0, 0, -2)));
+    calls.extend(others().map(|entry| call(entry, 0, 0, -2)));
     calls
 }
 
@@ -125,7 +122,7 @@ fn on_root_and_keyboard() -> Vec<RecordedCall> {
         root(3, -16).edited(damage),
         root(4, -2).edited(damage),
     ];
-    for entry in OTHERS {
+    for entry in others() {
         calls.extend([1, 2, 31, 32, 99, 256, 65_536].map(|hub| call(entry, hub, 0, -2)));
         calls.push(call(entry, 99, 99, -16).edited(damage));
     }

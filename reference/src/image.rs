@@ -9,7 +9,7 @@ use crate::device::usb::usbd::descriptors::*;
 use crate::device::usb::usbd::device::*;
 use crate::layout::*;
 use crate::outside::{self, Outside};
-use crate::stand_ins::{class_attach, dwc_hub};
+use crate::stand_ins::{class_attach, dwc_hub, transfer_error};
 
 const _: () = {
     assert!(size_of::<UsbDeviceDescriptor>() == DEVICE_DESCRIPTOR_LENGTH);
@@ -189,20 +189,8 @@ fn status(byte: u8) -> UsbDeviceStatus {
 }
 
 fn error(word: u32) -> UsbTransferError {
-    let errors = [
-        UsbTransferError::NoError,
-        UsbTransferError::Stall,
-        UsbTransferError::BufferError,
-        UsbTransferError::Babble,
-        UsbTransferError::NoAcknowledge,
-        UsbTransferError::CrcError,
-        UsbTransferError::BitError,
-        UsbTransferError::ConnectionError,
-        UsbTransferError::AhbError,
-        UsbTransferError::NotYetError,
-        UsbTransferError::Processing,
-    ];
-    let error = errors.into_iter().find(|&error| error as u32 == word);
+    let mut errors = (0..=31).filter_map(transfer_error);
+    let error = errors.find(|&error| error as u32 == word);
     error.expect("a sound store's error")
 }
 

@@ -4,9 +4,10 @@ use mathlib.Core.Logic.{inr}
 use mathlib.Core.List.{List, [], _∷_}
 use Prim.Native.Nat.{ℕ, zero, suc, _+_, _≤_, _<_, _^_}
 use native.Mathlib.Nat.{add-zero}
+use native.Mathlib.Decide.{ℕ-discrete}
 use native.Mathlib.Omega.{arith}
-use lib.ListN.{length, getD}
-use lib.Seq.{ext-getD}
+use lib.ListN.{length, getD, set, length-set}
+use lib.Seq.{ext-getD, getD-set-same, getD-set-other}
 use Rattle.usb_types.specs.Numbers.{littleEndian}
 use Rattle.usb_device.specs.declared.hub.HubDevice.{HubDevice}
 use Rattle.usb_device.specs.Layout.{PortStatus, Children, Child, MaxChildren}
@@ -28,6 +29,25 @@ ten-at f port h = let zero-first : 0 + port ≡ port = omega arith in ports-at 1
 -- a list of ten is told by the value of each port
 ten-is : (f : ℕ → ℕ) (vs : List ℕ) → length vs ≡ 10 → ((port : ℕ) → port < 10 → f port ≡ getD vs port 0) → tenPorts f ≡ vs
 ten-is f vs long same = ext-getD 0 (tenPorts f) vs (sym long) (λ port h. ten-at f port h ∙ same port h)
+
+-- ten values, of which the first n are those of f
+pub record Filled (f : ℕ → ℕ) (vs : List ℕ) (n : ℕ) : Type 0 where
+  pub long : length vs ≡ 10
+  pub first : (port : ℕ) → port < n → getD vs port 0 ≡ f port
+
+pub filled-none : {f : ℕ → ℕ} (vs : List ℕ) → length vs ≡ 10 → Filled f vs 0
+filled-none vs long = record { long = long; first = λ port h. absurd (omega arith) }
+
+pub filled-more : {f : ℕ → ℕ} {vs : List ℕ} {n : ℕ} (v : ℕ) → n < 10 → v ≡ f n → Filled f vs n → Filled f (set vs n v) (n + 1)
+filled-more {f} {vs} {n} v l e filled =
+    record { long = length-set vs n v ∙ filled .long; first = λ port h. go port h (ℕ-discrete port n) }
+  where
+    go : (port : ℕ) → port < n + 1 → Dec (port ≡ n) → getD (set vs n v) port 0 ≡ f port
+    go port h (yes same) = rw same (getD-set-same vs n v 0 (omega (arith, filled .long)) ∙ e)
+    go port h (no other) = getD-set-other vs n port v 0 other ∙ filled .first port (omega arith)
+
+pub filled-all : {f : ℕ → ℕ} {vs : List ℕ} {n : ℕ} → 10 ≤ n → Filled f vs n → tenPorts f ≡ vs
+filled-all {f} {vs} all filled = ten-is f vs (filled .long) (λ port h. sym (filled .first port (omega arith)))
 
 -- the status and the child of a port, as the code reads them
 pub status-at : (s : List ℕ) (place port : ℕ) → port < 10 → getD (hubAt s place .«port_status») port 0 ≡ numberAt s place (PortStatus port) 4

@@ -33,48 +33,18 @@ impl HubDevice {
     }
 }
 
-fn load_statuses(store: &[u8], place: usize) -> [u32; 10]
-    requires { ⌜ (length (now store) ≡ StoreLength) × (place < Places) ⌝ }
-    ensures { λ r. ⌜ r ≡ hubAt (now (store .entry)) place .«port_status» ⌝ }
-{
-    [
-        u32_at(store, place, 56),
-        u32_at(store, place, 60),
-        u32_at(store, place, 64),
-        u32_at(store, place, 68),
-        u32_at(store, place, 72),
-        u32_at(store, place, 76),
-        u32_at(store, place, 80),
-        u32_at(store, place, 84),
-        u32_at(store, place, 88),
-        u32_at(store, place, 92),
-    ]
-}
-
-fn load_children(store: &[u8], place: usize) -> [u8; 10]
-    requires { ⌜ (length (now store) ≡ StoreLength) × (place < Places) ⌝ }
-    ensures { λ r. ⌜ r ≡ hubAt (now (store .entry)) place .children ⌝ }
-{
-    [
-        byte_at(store, place, 96),
-        byte_at(store, place, 97),
-        byte_at(store, place, 98),
-        byte_at(store, place, 99),
-        byte_at(store, place, 100),
-        byte_at(store, place, 101),
-        byte_at(store, place, 102),
-        byte_at(store, place, 103),
-        byte_at(store, place, 104),
-        byte_at(store, place, 105),
-    ]
-}
-
 pub fn load_hub(store: &[u8], place: usize) -> HubDevice
     requires { ⌜ (length (now store) ≡ StoreLength) × (place < Places) ⌝ }
     ensures { λ r. ⌜ r ≡ hubAt (now (store .entry)) place ⌝ }
 {
-    let port_status = load_statuses(store, place);
-    let children = load_children(store, place);
+    let mut port_status = [0u32; PORTS];
+    let mut children = [0u8; PORTS];
+    let mut port = 0;
+    while port < PORTS {
+        port_status[port] = u32_at(store, place, PORT_STATUS + 4 * port);
+        children[port] = byte_at(store, place, CHILDREN + port);
+        port += 1;
+    }
     let max_children = byte_at(store, place, MAX_CHILDREN);
     HubDevice {
         port_status,

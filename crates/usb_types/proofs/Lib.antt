@@ -1,3 +1,5 @@
 pub mod LittleEndian
 pub mod Table
+pub mod Results
 pub mod Directions
+pub mod Lengths

@@ -3,6 +3,7 @@
 use mathlib.Core.List.{List, [], _∷_}
 use Prim.Native.Nat.{ℕ}
 use borrow.Author.Needs.{needs}
+use lib.Dec.{eqb, eqb→eq}
 use Rattle.usb_types.specs.Outcomes.{errorWord}
 use Rattle.usb_types.proofs.Table.{rule}
 use Rattle.usb_types.proofs.types.error_word.Statement.{statement}
@@ -16,7 +17,7 @@ words =
 
 returns : tie.Need-returns
 unfolding words errorWord
-returns c = rule errorWord words tt _ (c .pre)
+returns c = eqb→eq _ _ (rule (λ bit word. eqb word (errorWord bit)) words tt _ (c .pre) 0)
 
 pub error-word-spec : {M : Type 1} → statement M
 error-word-spec = tie.close (tie.spec (λ c. search needs) (λ c. search needs) returns)
