@@ -6,7 +6,7 @@ use mathlib.Core.List.{List}
 use Prim.Native.Nat.{ℕ, zero, suc, _+_, _≤_, _<_}
 use native.Mathlib.Omega.{arith}
 use native.Mathlib.Decide.{ℕ-discrete, decLt}
-use borrow.Author.Tests.{eqb-true, eq-eqb, ne-eqb}
+use borrow.Author.Tests.{eqb-true, eqb-false, eq-eqb, ne-eqb}
 use lib.Dec.{eqb}
 use lib.ListN.{length, getD}
 use Rattle.usb_device.specs.Layout.{Used}
@@ -25,6 +25,33 @@ first-from s (suc n) p h = go (first-from s n (p + 1)) (eqb (byteAt s p Used) 0)
     go : (firstUnusedFrom s n (p + 1) < p + 1 + n → byteAt s (firstUnusedFrom s n (p + 1)) Used ≡ 0) → (b : Bool) → eqb (byteAt s p Used) 0 ≡ b → cond b p (firstUnusedFrom s n (p + 1)) < p + suc n → byteAt s (cond b p (firstUnusedFrom s n (p + 1))) Used ≡ 0
     go rest true e l = eqb-true (byteAt s p Used) 0 e
     go rest false e l = rest (omega arith)
+
+within : (s : List ℕ) (n p : ℕ) → firstUnusedFrom s n p ≤ p + n
+unfolding firstUnusedFrom
+within s zero p = omega arith
+within s (suc n) p = go (within s n (p + 1)) (eqb (byteAt s p Used) 0)
+  where
+    go : firstUnusedFrom s n (p + 1) ≤ p + 1 + n → (b : Bool) → cond b p (firstUnusedFrom s n (p + 1)) ≤ p + suc n
+    go rest true = omega arith
+    go rest false = omega arith
+
+before : (s : List ℕ) (n p q : ℕ) → p ≤ q → q < firstUnusedFrom s n p → byteAt s q Used ≢ 0
+unfolding firstUnusedFrom
+before s zero p q h l = absurd (omega arith)
+before s (suc n) p q h l = go (before s n (p + 1) q) (eqb (byteAt s p Used) 0) refl (ℕ-discrete p q) l
+  where
+    go : (p + 1 ≤ q → q < firstUnusedFrom s n (p + 1) → byteAt s q Used ≢ 0) → (b : Bool) → eqb (byteAt s p Used) 0 ≡ b → Dec (p ≡ q)
+        → q < cond b p (firstUnusedFrom s n (p + 1)) → byteAt s q Used ≢ 0
+    go rest true e d m = absurd (omega arith)
+    go rest false e (yes same) m = λ z. eqb-false (byteAt s p Used) 0 e (ap (λ (k : ℕ). byteAt s k Used) same ∙ z)
+    go rest false e (no other) m = rest (omega arith) m
+
+pub first-most : (s : List ℕ) → firstUnused s ≤ 32
+first-most s = within s 32 0
+
+-- the places before the first unused one are not unused
+pub first-before : (s : List ℕ) (p : ℕ) → p < firstUnused s → byteAt s p Used ≢ 0
+first-before s p h = before s 32 0 p (omega arith) h
 
 -- the first unused place is unused
 pub first-unused : (s : List ℕ) → firstUnused s < 32 → byteAt s (firstUnused s) Used ≡ 0

@@ -14,8 +14,9 @@ use lib.Seq.{drop-cons, take-all}
 use borrow.Author.Tests.{eqb-true, eqb-false, lt-ltb, le-ltb, le-leb, lt-leb, eq-eqb, ne-eqb}
 use Rattle.usb_device.specs.Layout.{Places, PlaceLength, StoreLength, Used, Number, Speed, Status, PortNumber, Parent, Hub, Error, Child, MaxChildren}
 use Rattle.usb_device.specs.Access.{byteAt, bytesAt, numberAt}
+use Rattle.usb_device.specs.Device.{firstUnused}
 use Rattle.usb_sound.specs.Sound.{OneOf, errors, Ports}
-use Rattle.usb_sound.specs.Test.{zeros, oneOf, every, leadFrom, lead, fieldsSound, hubSound, placeSound, Marked, marked, andThen, parentSound, markChild, markPorts, markHubs, allSeen, treeSound, storeSound, sound}
+use Rattle.usb_sound.specs.Test.{zeros, oneOf, every, fieldsSound, hubSound, placeSound, usedSound, Marked, marked, andThen, parentSound, markChild, markPorts, markHubs, allSeen, treeSound, storeSound, sound}
 use Rattle.usb_sound.proofs.Tests.{split, one-decides}
 
 -- bytes or-ed together are zero exactly where each is
@@ -61,16 +62,6 @@ module _ (f : ℕ → Bool) (n p : ℕ) where
   pub every-end : n ≤ p → every f p (n - p) ≡ true
   unfolding every
   every-end h = ap (λ (k : ℕ). every f p k) (none n p h)
-
-module _ (s : List ℕ) (p : ℕ) where
-  pub lead-turn : {t : Bool} → p < Places → eqb (byteAt s p Used) 1 ≡ t
-      → leadFrom s p (Places - p) ≡ cond t (leadFrom s (p + 1) (Places - (p + 1))) p
-  unfolding leadFrom
-  lead-turn h e = ap (λ (k : ℕ). leadFrom s p k) (left Places p h) ∙ simp e
-
-  pub lead-end : p ≡ Places → leadFrom s p (Places - p) ≡ Places
-  unfolding leadFrom
-  lead-end e = ap (λ (k : ℕ). leadFrom s k (Places - k)) e
 
 -- a child byte by its cases
 module _ (s : List ℕ) (n h q c : ℕ) (seen : List ℕ) where
@@ -252,6 +243,15 @@ module _ (s : List ℕ) (p : ℕ) where
   unfolding placeSound
   place-tail x a b d r ea ta ex eb tb ed td er = simp (← ea, ← ex, ← eb, ← ed, ← er, ta, tb, td)
 
+module _ (s : List ℕ) (p x : ℕ) where
+  pub used-not : x ≡ byteAt s p Used → x ≢ 1 → false ≡ usedSound s p
+  unfolding usedSound
+  used-not e z = simp (← e, ne-eqb x 1 z)
+
+  pub used-place : (r : Bool) → x ≡ byteAt s p Used → x ≡ 1 → r ≡ placeSound s p → r ≡ usedSound s p
+  unfolding usedSound
+  used-place r e z t = simp (t, ← e, eq-eqb x 1 z)
+
 module _ (s : List ℕ) (n : ℕ) (seen : List ℕ) (r : Bool) (m : marked r seen ≡ markHubs s n 0 n (replicate Places 0)) where
   pub tree-bad : r ≡ false → false ≡ treeSound s n
   unfolding treeSound allSeen
@@ -272,13 +272,13 @@ module _ (s : List ℕ) (n : ℕ) where
   unfolding storeSound
   store-root x ex e = simp (← ex, ne-eqb x 0 e, and-false)
 
-  pub store-places : (b : Bool) → b ≡ every (placeSound s) 0 n → b ≡ false → false ≡ storeSound s n
+  pub store-places : (b : Bool) → b ≡ every (usedSound s) 0 n → b ≡ false → false ≡ storeSound s n
   unfolding storeSound
   store-places b eb e = simp (← eb, e, and-false)
 
   pub store-tree : (x : ℕ) (a b r : Bool) → a ≡ zeros (take (length s - n * PlaceLength) (drop (n * PlaceLength) s)) → a ≡ true
       → x ≡ byteAt s 0 Parent
-      → x ≡ 0 → b ≡ every (placeSound s) 0 n → b ≡ true → r ≡ treeSound s n → r ≡ storeSound s n
+      → x ≡ 0 → b ≡ every (usedSound s) 0 n → b ≡ true → r ≡ treeSound s n → r ≡ storeSound s n
   unfolding storeSound
   store-tree x a b r ea ta ex tx eb tb er =
       let z = ea ∙ tail-zeros s (n * PlaceLength) in
@@ -288,6 +288,6 @@ pub sound-other : (s : List ℕ) → length s ≢ StoreLength → false ≡ soun
 unfolding sound
 sound-other s e = simp (ne-eqb (length s) StoreLength e)
 
-pub sound-whole : (s : List ℕ) (n : ℕ) (r : Bool) → length s ≡ StoreLength → n ≡ lead s → r ≡ storeSound s n → r ≡ sound s
+pub sound-whole : (s : List ℕ) (n : ℕ) (r : Bool) → length s ≡ StoreLength → n ≡ firstUnused s → r ≡ storeSound s n → r ≡ sound s
 unfolding sound
 sound-whole s n r e is t = simp (t, ← is, eq-eqb (length s) StoreLength e)

@@ -1,6 +1,6 @@
 -- What each test decides: it is true exactly where that holds. Assumes nothing.
 use mathlib.Core.Path.{_≡_, refl, sym, _∙_, subst}
-use mathlib.Core.Bool.{Bool, true, false, cond, _&&_, _||_}
+use mathlib.Core.Bool.{Bool, true, false, _&&_, _||_}
 use mathlib.Core.Logic.{_⊎_, inl, inr, ⊎-elim, _≢_}
 use mathlib.Core.List.{List, [], _∷_}
 use Prim.Native.Nat.{ℕ, zero, suc, _+_, _-_, _≤_, _<_}
@@ -8,11 +8,10 @@ use native.Mathlib.Omega.{arith}
 use lib.Dec.{T, leb, ltb, eqb}
 use lib.ListN.{getD, drop, replicate, length-take, List·getD-eq-default}
 use borrow.Author.Tests.{ltb-true, ltb-false, leb-true, eqb-true, eqb-false, lt-ltb, le-leb, eq-eqb}
-use Rattle.usb_device.specs.Layout.{Used}
 use Rattle.usb_device.specs.Access.{offset, byteAt, bytesAt}
 use Rattle.usb_device.proofs.Fields.{byte-of-bytes}
 use Rattle.usb_sound.specs.Sound.{OneOf, Zero, Decides}
-use Rattle.usb_sound.specs.Test.{zeros, oneOf, every, leadFrom}
+use Rattle.usb_sound.specs.Test.{zeros, oneOf, every}
 
 pub no-false : false ≡ true → ⊥
 no-false e = subst T (sym e) tt
@@ -102,32 +101,6 @@ every-decides f P d p (suc k) =
   where
     to : P p × ((i : ℕ) → p + 1 ≤ i → i < p + 1 + k → P i) → (i : ℕ) → p ≤ i → i < p + suc k → P i
     to x i a b = ⊎-elim (λ e. subst P e (x .0)) (λ (l : p + 1 ≤ i). x .1 i l (omega arith)) (split p i a)
-
--- the leading used places
-pub record Leads (s : List ℕ) (p k n : ℕ) : Type 0 where
-  pub from : p ≤ n
-  pub to : n ≤ p + k
-  pub used : (i : ℕ) → p ≤ i → i < n → byteAt s i Used ≡ 1
-  pub stop : n < p + k → byteAt s n Used ≢ 1
-
-pub leads : (s : List ℕ) (p k : ℕ) → Leads s p k (leadFrom s p k)
-unfolding leadFrom
-leads s p zero =
-    record { from = omega arith; to = omega arith; used = λ i a b. absurd (omega arith); stop = λ a. absurd (omega arith) }
-leads s p (suc k) = go (eqb (byteAt s p Used) 1) refl (leads s (p + 1) k)
-  where
-    go : (t : Bool) → eqb (byteAt s p Used) 1 ≡ t → Leads s (p + 1) k (leadFrom s (p + 1) k)
-        → Leads s p (suc k) (cond t (leadFrom s (p + 1) k) p)
-    go true e r =
-        record {
-          from = omega arith;
-          to = omega arith;
-          used =
-              λ i a b. ⊎-elim (λ q. subst (λ (m : ℕ). byteAt s m Used ≡ 1) q (eqb-true (byteAt s p Used) 1 e)) (λ q. r .used i q b) (split p i a);
-          stop = λ a. r .stop (omega arith);
-        }
-    go false e r =
-        record { from = omega arith; to = omega arith; used = λ i a b. absurd (omega arith); stop = λ a. eqb-false (byteAt s p Used) 1 e }
 
 -- a list of zeros has no other element
 pub replicate-zero : (n i : ℕ) → _≡_ {A = ℕ} (getD (replicate n 0) i 0) 0

@@ -1,5 +1,6 @@
--- The test that the code makes, as a function: the leading used places, all after them zero, each of them by itself, and
--- then their children, marked one after the other. proofs/Decides.antt: it is true exactly where the store is sound.
+-- The test that the code makes, as a function: all bytes from the first unused place on are zero, each place before it is used
+-- and keeps the rules, and their children are marked one after the other. proofs/Decides.antt: it is true exactly where the
+-- store is sound.
 use mathlib.Core.Bool.{Bool, true, false, cond, _&&_, _||_}
 use mathlib.Core.List.{List, [], _∷_}
 use Prim.Native.Nat.{ℕ, zero, suc, _+_, _-_, _*_}
@@ -7,6 +8,7 @@ use lib.Dec.{leb, ltb, eqb}
 use lib.ListN.{length, getD, set, drop, replicate}
 use Rattle.usb_device.specs.Layout.{Places, PlaceLength, StoreLength, Used, Number, Speed, Status, PortNumber, Parent, Hub, Error, Child, MaxChildren}
 use Rattle.usb_device.specs.Access.{byteAt, bytesAt, numberAt}
+use Rattle.usb_device.specs.Device.{firstUnused}
 use Rattle.usb_sound.specs.Sound.{speeds, statuses, errors, Ports}
 
 unfoldable pub oneOf : ℕ → List ℕ → Bool
@@ -21,15 +23,6 @@ zeros (x ∷ xs) = eqb x 0 && zeros xs
 unfoldable pub every : (ℕ → Bool) → ℕ → ℕ → Bool
 every f p zero = true
 every f p (suc k) = f p && every f (p + 1) k
-
--- from p on, with k places left: the first place that is not used
-unfoldable pub leadFrom : List ℕ → ℕ → ℕ → ℕ
-leadFrom s p zero = p
-leadFrom s p (suc k) = cond (eqb (byteAt s p Used) 1) (leadFrom s (p + 1) k) p
-
--- how many places are used before the first that is not
-unfoldable pub lead : List ℕ → ℕ
-lead s = leadFrom s 0 Places
 
 unfoldable pub fieldsSound : List ℕ → ℕ → Bool
 fieldsSound s p =
@@ -46,6 +39,10 @@ hubSound s p (suc (suc (suc h))) = false
 unfoldable pub placeSound : List ℕ → ℕ → Bool
 placeSound s p =
     fieldsSound s p && hubSound s p (byteAt s p Hub) && zeros (bytesAt s p 107 21) && zeros (bytesAt s p 1096 56)
+
+-- a place that is used, and keeps the rules
+unfoldable pub usedSound : List ℕ → ℕ → Bool
+usedSound s p = eqb (byteAt s p Used) 1 && placeSound s p
 
 -- whether each child so far keeps the rules, and the marks: 1 for each place that was seen as a child
 pub data Marked : Type 0 where
@@ -84,10 +81,10 @@ allSeen n (marked ok seen) = ok && every (λ p. eqb (getD seen p 0) 1) 1 (n - 1)
 unfoldable pub treeSound : List ℕ → ℕ → Bool
 treeSound s n = allSeen n (markHubs s n 0 n (replicate Places 0))
 
--- the places of a store with n of them used in front
+-- the rules on a store whose first n places are used, and the others are not
 unfoldable pub storeSound : List ℕ → ℕ → Bool
 storeSound s n =
-    zeros (drop (n * PlaceLength) s) && eqb (byteAt s 0 Parent) 0 && every (placeSound s) 0 n && treeSound s n
+    zeros (drop (n * PlaceLength) s) && eqb (byteAt s 0 Parent) 0 && every (usedSound s) 0 n && treeSound s n
 
 unfoldable pub sound : List ℕ → Bool
-sound s = eqb (length s) StoreLength && storeSound s (lead s)
+sound s = eqb (length s) StoreLength && storeSound s (firstUnused s)

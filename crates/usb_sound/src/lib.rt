@@ -1,12 +1,12 @@
-// The sound store (document 01, "A sound store: .."). The leading used places are counted, all bytes after them are zero,
-// each of them keeps the rules by itself, and their children are marked, so that each is seen exactly once.
+// The sound store (document 01, "A sound store: .."). All bytes from the first unused place on are zero, each place before it
+// is used and keeps the rules by itself, and their children are marked, so that each is seen exactly once.
 mod children;
 mod place;
 
 use children::tree_sound;
-use place::lead_of;
 use place::places_sound;
 use place::zero;
+use usb_device::device::first_unused;
 use usb_device::store::PARENT;
 use usb_device::store::PLACE_LEN;
 use usb_device::store::STORE_LEN;
@@ -18,7 +18,7 @@ ghost use Rattle.usb_device.specs.Layout.{Places, StoreLength};
 ghost use Rattle.usb_sound.specs.Sound.{Sound, Decides};
 ghost use Rattle.usb_sound.specs.Test.{storeSound, sound};
 
-// The rules on a whole store whose first n places are used, and the next is not.
+// The rules on a whole store, n being the first place that is not used.
 fn store_sound(store: &[u8], n: usize) -> bool
     requires { ⌜ (length (now store) ≡ StoreLength) × (n ≤ Places) ⌝ }
     ensures { λ r. ⌜ r ≡ storeSound (now (store .entry)) n ⌝ }
@@ -43,5 +43,5 @@ pub fn sound(store: &[u8]) -> bool
     if store.len() != STORE_LEN {
         return false;
     }
-    store_sound(store, lead_of(store))
+    store_sound(store, first_unused(store))
 }

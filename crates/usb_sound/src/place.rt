@@ -3,7 +3,6 @@ use usb_device::store::ERROR;
 use usb_device::store::HUB;
 use usb_device::store::MAX_CHILDREN;
 use usb_device::store::NUMBER;
-use usb_device::store::PLACES;
 use usb_device::store::SPEED;
 use usb_device::store::STATUS;
 use usb_device::store::USED;
@@ -16,7 +15,7 @@ ghost use lib.ListN.{length};
 ghost use Rattle.usb_device.specs.Layout.{Places, StoreLength};
 ghost use Rattle.usb_device.specs.Access.{Within, byteAt, bytesAt};
 ghost use Rattle.usb_sound.specs.Sound.{errors};
-ghost use Rattle.usb_sound.specs.Test.{zeros, oneOf, every, lead, fieldsSound, hubSound, placeSound};
+ghost use Rattle.usb_sound.specs.Test.{zeros, oneOf, every, fieldsSound, hubSound, placeSound, usedSound};
 
 // All bytes are zero. The loop has no early exit, so that it is compiled to vector instructions.
 pub fn zero(s: &[u8]) -> bool
@@ -51,21 +50,6 @@ pub fn count_at(store: &[u8], place: usize, field: usize) -> usize
     ensures { λ r. ⌜ r ≡ byteAt (now (store .entry)) place field ⌝ }
 {
     wide(byte_at(store, place, field))
-}
-
-// How many places are used before the first that is not.
-pub fn lead_of(store: &[u8]) -> usize
-    requires { ⌜ length (now store) ≡ StoreLength ⌝ }
-    ensures { λ r. ⌜ (r ≡ lead (now (store .entry))) × (r ≤ Places) ⌝ }
-{
-    let mut p = 0;
-    while p < PLACES {
-        if byte_at(store, p, USED) != 1 {
-            return p;
-        }
-        p += 1;
-    }
-    PLACES
 }
 
 // A value of UsbTransferError.
@@ -130,14 +114,25 @@ fn place_sound(store: &[u8], p: usize) -> bool
     zero_at(store, p, 1096, 56)
 }
 
+// A place that is used, and keeps the rules.
+fn used_sound(store: &[u8], p: usize) -> bool
+    requires { ⌜ (length (now store) ≡ StoreLength) × (p < Places) ⌝ }
+    ensures { λ r. ⌜ r ≡ usedSound (now (store .entry)) p ⌝ }
+{
+    if byte_at(store, p, USED) != 1 {
+        return false;
+    }
+    place_sound(store, p)
+}
+
 // The first n places.
 pub fn places_sound(store: &[u8], n: usize) -> bool
     requires { ⌜ (length (now store) ≡ StoreLength) × (n ≤ Places) ⌝ }
-    ensures { λ r. ⌜ r ≡ every (placeSound (now (store .entry))) 0 n ⌝ }
+    ensures { λ r. ⌜ r ≡ every (usedSound (now (store .entry))) 0 n ⌝ }
 {
     let mut p = 0;
     while p < n {
-        if !place_sound(store, p) {
+        if !used_sound(store, p) {
             return false;
         }
         p += 1;

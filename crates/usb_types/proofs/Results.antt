@@ -1,8 +1,8 @@
 -- The result of a transfer by its number: a failing submit code k is −k. Assumes nothing.
-use mathlib.Core.Path.{_≡_, ap, _∙_}
+use mathlib.Core.Path.{_≡_, ap}
 use mathlib.Core.Logic.{_≢_}
-use mathlib.Core.Bool.{Bool, true, false, cond}
-use Prim.Native.Nat.{ℕ, zero, suc, _<_}
+use mathlib.Core.Bool.{Bool, false}
+use Prim.Native.Nat.{ℕ, _<_}
 use borrow.Author.Tests.{ne-eqb}
 use lib.Dec.{T, eqb, eqb→eq}
 use lib.IntN.{ℤ, pos, negsuc}
@@ -10,7 +10,6 @@ use lib.ListN.{getD}
 use Rattle.usb_types.specs.Numbers.{minus}
 use Rattle.usb_types.specs.Answers.{answerNumber}
 use Rattle.usb_types.specs.Outcomes.{submitResults, resultOf}
-use Rattle.usb_types.specs.declared.types.Answer.{Answer}
 use Rattle.usb_types.specs.declared.types.Answer.the-variants.{Ok}
 use Rattle.usb_types.proofs.Table.{rule}
 

@@ -45,7 +45,8 @@ ToHub = 32
 abbrev pub ToPort : ℕ
 ToPort = 35
 
--- table 9-3: 1 for the requests whose data goes from the device to the host, In
+-- table 9-3: 1 for the standard requests whose data goes from the device to the host, In; GetStatus, ClearFeature, SetFeature
+-- and GetDescriptor of the hub class (tables 11-15 and 11-16) have the same codes and directions
 unfoldable pub directionOf : ℕ → ℕ
 directionOf request =
     cond (eqb request GetStatus || eqb request GetDescriptor || eqb request GetConfiguration || eqb request GetInterface || eqb request SynchFrame)

@@ -31,7 +31,8 @@ pub struct UsbDeviceRequest {
     pub length: u16,
 }
 
-// Direction of the data stage of a standard or hub class request, by its code: 1 In, 0 Out.
+// Direction of the data stage of a standard request, by its code: 1 In, 0 Out. The hub class requests that the driver sends
+// (GetStatus, ClearFeature, SetFeature, GetDescriptor) have the same codes and directions.
 pub fn direction_of(request: u8) -> u8
     ensures { λ r. ⌜ (r ≡ directionOf request) × (r < 2) ⌝ }
 {

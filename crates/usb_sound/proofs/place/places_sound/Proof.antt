@@ -4,13 +4,13 @@ use borrow.Author.Tests.{not-true, not-false}
 use mathlib.Core.Path.{_≡_, sym, _∙_}
 use Prim.Native.Nat.{_-_}
 use native.Mathlib.Nat.{sub-zero}
-use Rattle.usb_sound.specs.Test.{every, placeSound}
+use Rattle.usb_sound.specs.Test.{every, usedSound}
 use Rattle.usb_sound.proofs.Steps.{every-turn, every-end}
 use Rattle.usb_sound.proofs.place.places_sound.Statement.{statement}
 use Rattle.usb_sound.proofs.place.places_sound.Tie as tie
 
 abbrev Inv-loop : tie.InvT-loop
-Inv-loop store n p₀ p = every (placeSound store) 0 n ≡ every (placeSound store) p (n - p)
+Inv-loop store n p₀ p = every (usedSound store) 0 n ≡ every (usedSound store) p (n - p)
 
 abbrev μ-loop : tie.MeasureT-loop
 μ-loop store n p₀ p = n - p
@@ -22,12 +22,12 @@ returns : tie.Need-returns Inv-loop μ-loop
 returns c =
     sym
     (c .before .before .before .loop .inv
-    ∙ every-turn _ _ _ (c .before .before .loop-test .taken) (sym (c .before .place-sound .ensures) ∙ not-true _ (c .if1 .taken)))
+    ∙ every-turn _ _ _ (c .before .before .loop-test .taken) (sym (c .before .used-sound .ensures) ∙ not-true _ (c .if1 .taken)))
 
 loop-again : tie.Need-loop-again Inv-loop μ-loop
 loop-again c =
     c .before .before .before .loop .inv
-    ∙ every-turn _ _ _ (c .before .before .loop-test .taken) (sym (c .before .place-sound .ensures) ∙ not-false _ (c .if1 .left))
+    ∙ every-turn _ _ _ (c .before .before .loop-test .taken) (sym (c .before .used-sound .ensures) ∙ not-false _ (c .if1 .left))
 
 returns-2 : tie.Need-returns-2 Inv-loop μ-loop
 returns-2 c = sym (c .before .loop .inv ∙ every-end _ _ _ (c .loop-test .left))
