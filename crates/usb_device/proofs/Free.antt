@@ -4,6 +4,7 @@ use mathlib.Core.Bool.{Bool, true, false, cond}
 use mathlib.Core.Logic.{inl, inr, _≢_}
 use mathlib.Core.List.{List}
 use Prim.Native.Nat.{ℕ, zero, suc, _+_, _≤_, _<_}
+use native.Mathlib.Nat.{zero-add}
 use native.Mathlib.Omega.{arith}
 use native.Mathlib.Decide.{ℕ-discrete, decLt}
 use borrow.Author.Tests.{eqb-true, eqb-false, eq-eqb, ne-eqb}
@@ -57,6 +58,14 @@ first-before s p h = before s 32 0 p (omega arith) h
 pub first-unused : (s : List ℕ) → firstUnused s < 32 → byteAt s (firstUnused s) Used ≡ 0
 first-unused s h = first-from s 32 0 (omega arith)
 
+-- where the first n places are used, the first unused one comes after them
+pub first-least : (s : List ℕ) (n : ℕ) → n ≤ 32 → ((p : ℕ) → p < n → byteAt s p Used ≢ 0) → n ≤ firstUnused s
+first-least s n h used = go (decLt (firstUnused s) n)
+  where
+    go : Dec (firstUnused s < n) → n ≤ firstUnused s
+    go (yes l) = absurd (used (firstUnused s) l (first-unused s (omega arith)))
+    go (no l) = omega arith
+
 -- ---- how many
 
 -- one place's part in the count
@@ -106,12 +115,17 @@ free-field s p f vs above room = free-agree s (withBytes s p f vs) 32 (λ q h. b
     apart q (yes l) = inl (omega arith)
     apart q (no l) = inr (omega arith)
 
+-- a byte of a new device
+pub new-byte : (s : List ℕ) (p f : ℕ) → length s ≡ 36864 → p < 32 → f < 1152 → byteAt (withBytes s p 0 (newDevice p)) p f ≡ getD (newDevice p) f 0
+unfolding newDevice
+new-byte s p f whole inside h =
+    rw zero-add at (byte-of-bytes (withBytes s p 0 (newDevice p)) p 0 1152 f h)
+    ∙ ap (λ (l : List ℕ). getD l f 0) (bytes-same s p 0 (newDevice p) (record { whole = whole; inside = inside; room = omega (arith, length-new p) }))
+
 -- the place of a new device is used
 pub new-used : (s : List ℕ) (p : ℕ) → length s ≡ 36864 → p < 32 → byteAt (withBytes s p 0 (newDevice p)) p Used ≡ 1
 unfolding newDevice
-new-used s p whole inside =
-    byte-of-bytes (withBytes s p 0 (newDevice p)) p 0 1152 0 (omega arith)
-    ∙ ap (λ (l : List ℕ). getD l 0 0) (bytes-same s p 0 (newDevice p) (record { whole = whole; inside = inside; room = omega (arith, length-new p) }))
+new-used s p whole inside = new-byte s p Used whole inside (omega arith)
 
 -- a new device at an unused place takes it
 pub free-taken : (s : List ℕ) (p : ℕ) → length s ≡ 36864 → p < 32 → byteAt s p Used ≡ 0 → freePlaces (withBytes s p 0 (newDevice p)) + 1 ≡ freePlaces s

@@ -2,7 +2,7 @@
 -- Assumes nothing.
 use mathlib.Core.Path.{_≡_, refl, sym, ap}
 use mathlib.Core.Logic.{_≢_}
-use mathlib.Core.List.{List, [], _∷_}
+use mathlib.Core.List.{List, [], _∷_, _++_}
 use Prim.Native.Nat.{ℕ, zero, suc, _+_, _≤_, _<_}
 use native.Mathlib.Nat.{suc-add, zero-add}
 use native.Mathlib.Omega.{arith}
@@ -33,6 +33,15 @@ write-more (x ∷ s) zero [] j h = absurd (omega arith)
 write-more (x ∷ s) zero (v ∷ vs) zero h = ap (λ (l : List ℕ). v ∷ l) (sym (write-nil s zero))
 write-more (x ∷ s) zero (v ∷ vs) (suc j) h =
     let deeper : set (write s zero (take j vs)) (zero + j) (getD vs j 0) ≡ write s zero (take (suc j) vs) = write-more s zero vs j (omega arith) in
+    rw zero-add (ap (λ (l : List ℕ). v ∷ l) (rw zero-add at deeper))
+
+-- two writes, the second right after the first
+pub write-append : (s : List ℕ) (i : ℕ) (a b : List ℕ) → write (write s i a) (i + length a) b ≡ write s i (a ++ b)
+write-append [] i a b = refl
+write-append (x ∷ s) (suc i) a b = rw suc-add (ap (λ (l : List ℕ). x ∷ l) (write-append s i a b))
+write-append (x ∷ s) zero [] b = refl
+write-append (x ∷ s) zero (v ∷ a) b =
+    let deeper : write (write s zero a) (zero + length a) b ≡ write s zero (a ++ b) = write-append s zero a b in
     rw zero-add (ap (λ (l : List ℕ). v ∷ l) (rw zero-add at deeper))
 
 pub write-other : (vs s : List ℕ) (i j : ℕ) → ((k : ℕ) → k < length vs → j ≢ i + k) → getD (write s i vs) j 0 ≡ getD s j 0

@@ -92,6 +92,20 @@ MaxChildren = 106
 abbrev pub Interfaces : ℕ
 Interfaces = 128
 
+-- bNumEndpoints and bInterfaceClass of interface 0
+abbrev pub EndpointCount : ℕ
+EndpointCount = 132
+
+abbrev pub InterfaceClass : ℕ
+InterfaceClass = 133
+
 -- USB 2.0 table 9-13, eight times sixteen of 7 bytes
 abbrev pub Endpoints : ℕ
 Endpoints = 200
+
+-- bEndpointAddress and bmAttributes of interface 0's first endpoint
+abbrev pub EndpointAddress : ℕ
+EndpointAddress = 202
+
+abbrev pub EndpointAttributes : ℕ
+EndpointAttributes = 203

@@ -1,0 +1,59 @@
+-- Document 01, "Prove the M lines together as one computed table": both sides of specs/Bench.antt compute to the same rows. In three
+-- parts, because all in one take more steps than antt allows a declaration. Assumes nothing.
+use mathlib.Core.Path.{_≡_, refl, ap₂}
+use mathlib.Core.List.{_++_}
+use Rattle.usb_types.specs.Outcomes.{listed, errorWord, submitResults, resultOf}
+use Rattle.usb_types.specs.Requests.{directionOf, directionBit, deviceRequest}
+use Rattle.usb_types.specs.Actions.{packetSize}
+use Rattle.usb_types.specs.Descriptors.{kindOf, isHubClass}
+use Rattle.usb_device.specs.Access.{byteAt, bytesAt, withBytes}
+use Rattle.usb_device.specs.Device.{newDevice, firstUnusedFrom}
+use Rattle.usb_sound.specs.Test.{oneOf, zeros, every, fieldsSound, hubSound, placeSound, usedSound, andThen, parentSound, markChild, markPorts, markHubs, allSeen, treeSound, storeSound, sound}
+use Rattle.usb_model.specs.Programs.{_>>=_, _>>_, return, skip, throw, stop, look, change, succeed, attempt, ignore, when, each}
+use Rattle.usb_model.specs.World.{get, getBytes, getNumber, putBytes, put, putNumber, logAction, logRequest, microDelay, dwcUpdateHostFrameInterval}
+use Rattle.usb_model.specs.Features.{bit}
+use Rattle.usb_model.specs.Transfer.{takeOutcome, usbControlMessage, control, read, usbGetDescriptor}
+use Rattle.usb_model.specs.Walk.{interfaceDescriptor, endpointDescriptor, whole, descriptorOf, descriptor, walkFrom, walkAll, walk}
+use Rattle.usb_model.specs.Usbd.{readDeviceDescriptor, usbReadDeviceDescriptor, usbSetAddress, usbSetConfigure, usbConfigure, usbAllocateDevice}
+use Rattle.usb_model.specs.Hub.{hubReadDescriptor, hubGetStatus, hubChangePortFeature, hubPowerOn, hubPortGetStatus, portStatus, awaitReset, hubPortReset2, awaitEnabled, resetTries, hubPortReset, portOfChild, hubChildReset, speedOf, hubPortConnectionChanged, hubCheckConnection, hubCheckConnectionDevice, hubAttach, scanPort, hubCheckForChange}
+use Rattle.usb_model.specs.Attach.{usbAttachDevice, attachBelow, usbAttachRootHub}
+use Rattle.usb_model.specs.Entry.{rootVerdict, hubVerdict, call, rootAttach, scan, portCheck, childReset, childCheck, retriedReset, connectionChange, configurationWalk}
+use Rattle.usb_model.specs.Bench.{rows, shown, walks, vacantHub, rootPlace, devicePlace, attachedStore, damagedStore, walkLines, walkRefusals, attach, firstRequest, hubLines, reset, resetLines, benchLines, again, rootRefusals, entries, hubRefusals, childAndPortRefusals, taken, otherRefusals, Line, onStores, table, expected}
+
+-- what the lines compute with
+definitions : Unit {0}
+unfolding listed errorWord submitResults resultOf directionOf directionBit deviceRequest packetSize kindOf isHubClass byteAt
+    bytesAt withBytes newDevice firstUnusedFrom
+    oneOf zeros every fieldsSound hubSound placeSound usedSound andThen parentSound markChild markPorts markHubs allSeen
+    treeSound storeSound sound
+    _>>=_ _>>_ return skip throw stop look change succeed attempt ignore when each
+    get getBytes getNumber putBytes put putNumber logAction logRequest microDelay dwcUpdateHostFrameInterval
+    bit
+    takeOutcome usbControlMessage control read usbGetDescriptor
+    interfaceDescriptor endpointDescriptor whole descriptorOf descriptor walkFrom walkAll walk
+    readDeviceDescriptor usbReadDeviceDescriptor usbSetAddress usbSetConfigure usbConfigure usbAllocateDevice
+    hubReadDescriptor hubGetStatus hubChangePortFeature hubPowerOn hubPortGetStatus portStatus awaitReset hubPortReset2
+    awaitEnabled resetTries hubPortReset portOfChild hubChildReset speedOf hubPortConnectionChanged hubCheckConnection
+    hubCheckConnectionDevice hubAttach scanPort hubCheckForChange
+    usbAttachDevice attachBelow usbAttachRootHub
+    rootVerdict hubVerdict call rootAttach scan portCheck childReset childCheck retriedReset connectionChange
+    configurationWalk
+    rows shown walks vacantHub rootPlace devicePlace attachedStore damagedStore walkLines walkRefusals attach firstRequest
+    hubLines reset resetLines benchLines again rootRefusals entries hubRefusals childAndPortRefusals taken otherRefusals
+definitions = tt
+
+bench-lines : onStores benchLines (λ line. line .computed) ≡ onStores benchLines (λ line. line .due)
+unfolding definitions
+bench-lines = refl
+
+root-refusals : onStores rootRefusals (λ line. line .computed) ≡ onStores rootRefusals (λ line. line .due)
+unfolding definitions
+root-refusals = refl
+
+other-refusals : onStores otherRefusals (λ line. line .computed) ≡ onStores otherRefusals (λ line. line .due)
+unfolding definitions
+other-refusals = refl
+
+pub bench : table ≡ expected
+unfolding table expected
+bench = ap₂ _++_ (ap₂ _++_ bench-lines root-refusals) other-refusals

@@ -1,0 +1,12 @@
+pub mod Bytes
+pub mod Onward
+pub mod Walks
+pub mod Stores
+pub mod Primitives
+pub mod Record
+pub mod Pairs
+pub mod Functions
+pub mod Cycle
+pub mod Entries
+pub mod ScanAnswer
+pub mod Bench

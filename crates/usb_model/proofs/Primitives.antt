@@ -1,0 +1,261 @@
+-- The steps that the functions of the driver are made of walk. Assumes nothing.
+use mathlib.Core.Path.{_≡_, refl, sym, ap, _∙_, subst}
+use mathlib.Core.Bool.{Bool, true, false, cond, not}
+use mathlib.Core.Logic.{inl}
+use mathlib.Core.List.{List, [], _∷_}
+use Prim.Native.Nat.{ℕ, _+_, _-_, _≤_, _<_, min}
+use native.Mathlib.Omega.{arith}
+use borrow.Author.Tests.{ltb-false}
+use lib.Dec.{leb, ltb}
+use lib.ListN.{length, getD, take, drop, length-take, length-drop}
+use Rattle.usb_types.specs.Numbers.{littleEndian, fromLittleEndian}
+use Rattle.usb_types.specs.Outcomes.{listed}
+use Rattle.usb_types.specs.Actions.{requestAction, waitAction, frameIntervalAction, packetSize}
+use Rattle.usb_types.specs.Requests.{directionBit}
+use Rattle.usb_types.proofs.LittleEndian.{length-le}
+use Rattle.usb_types.proofs.Lengths.{request-length, wait-length, frame-length}
+use Rattle.usb_types.specs.declared.types.Halt.the-variants.{GarbledOutcome, OutcomesSpent, LogFull}
+use Rattle.usb_types.specs.declared.request.UsbDeviceRequest.{UsbDeviceRequest}
+use Rattle.usb_types.specs.declared.pipe.UsbPipeAddress.{UsbPipeAddress}
+use Rattle.usb_device.specs.Layout.{Child, MaxChildren, Error, LastTransfer}
+use Rattle.usb_device.specs.Access.{write, bytesAt, offset}
+use Rattle.usb_device.proofs.Writes.{length-write}
+use Rattle.usb_device.proofs.Free.{first-most}
+use Rattle.usb_model.specs.Programs.{on, _>>=_, _>>_, return, skip, stop, look, change, when}
+use Rattle.usb_model.specs.World.{World, withStore, get, getBytes, getNumber, put, putBytes, putNumber, appended, counted, logAction, logRequest, microDelay, dwcUpdateHostFrameInterval}
+use Rattle.usb_model.specs.Transfer.{Outcome, taken, takeOutcome, Buffer, usbControlMessage, control, read}
+use Rattle.usb_model.specs.Kept.{Bytes, requestsIn, Good, Onward}
+use Rattle.usb_model.proofs.Bytes.{bytes-one, bytes-cons, bytes-append, zeros, bytes-le, bytes-take, bytes-drop, bytes-write, bytes-at, byte-at}
+use Rattle.usb_model.proofs.Onward.{onward-same}
+use Rattle.usb_model.proofs.Stores.{Plain, plain-less, none-follows, plain-follows, most-follows, child-follows, store-onward, store-good, Follows}
+use Rattle.usb_model.proofs.Walks.{Went, went, halted, Walks, Any, Goes, bind, next, gives, throws, looks, changes, succeeds, whens}
+
+-- ---- the store
+
+written : {w : World} (t : List ℕ) → Good w → Follows (w .store) t → Onward w (withStore t w) × Good (withStore t w)
+written t g f = (store-onward t f, store-good t f g)
+
+bytes-most : (s : List ℕ) (p f k : ℕ) → length (bytesAt s p f k) ≤ k
+unfolding bytesAt
+bytes-most s p f k = omega (arith, length-take k (drop (offset p f) s))
+
+module _ {n : ℕ} where
+  pub gets : (p f : ℕ) → Walks n (get p f) (λ v. v < 256)
+  unfolding get
+  gets p f = looks _ (λ w g l. byte-at (w .store) p f (g .store))
+
+  pub gets-most : (p : ℕ) → Walks n (get p MaxChildren) (λ v. v ≤ 10)
+  unfolding get
+  gets-most p = looks _ (λ w g l. g .most p)
+
+  pub gets-number : (p f k : ℕ) → Goes n (getNumber p f k)
+  unfolding getNumber
+  gets-number p f k = looks _ (λ w g l. tt)
+
+  pub gets-bytes : (p f k : ℕ) → Walks n (getBytes p f k) (λ bytes. Bytes bytes × (length bytes ≤ k))
+  unfolding getBytes
+  gets-bytes p f k = looks _ (λ w g l. (bytes-at (w .store) p f k (g .store), bytes-most (w .store) p f k))
+
+  puts-none : (p f : ℕ) → Goes n (putBytes p f [])
+  unfolding putBytes
+  puts-none p f = changes _ (λ w g _. written _ g (none-follows g p f))
+
+  pub puts-bytes : (p f k : ℕ) (vs : List ℕ) → Plain f k → length vs ≤ k → Bytes vs → Goes n (putBytes p f vs)
+  unfolding putBytes
+  puts-bytes p f k vs r l b = changes _ (λ w g _. written _ g (plain-follows g p f vs (plain-less l r) b))
+
+  pub puts : (p f v : ℕ) → Plain f 1 → v < 256 → Goes n (put p f v)
+  unfolding put
+  puts p f v r l = changes _ (λ w g _. written _ g (plain-follows g p f (v ∷ []) r (bytes-one l)))
+
+  pub puts-number : (p f k v : ℕ) → Plain f k → Goes n (putNumber p f k v)
+  unfolding putNumber
+  puts-number p f k v r = changes _ (λ w g _. written _ g (plain-follows g p f (littleEndian k v) (plain-less (omega (arith, length-le k v)) r) (bytes-le k v)))
+
+  pub puts-most : (p v : ℕ) → p < n → v ≤ 10 → Goes n (put p MaxChildren v)
+  unfolding put
+  puts-most p v h l = changes _ (λ w g k. written _ g (most-follows g p v (omega (arith, first-most (w .store))) l))
+
+  pub puts-child : (p j c : ℕ) → j < 10 → p + 1 < c → c ≤ n → Goes n (put p (Child j) c)
+  unfolding put
+  puts-child p j c h above low = changes _ (λ w g k. written _ g (child-follows g p j c (omega (arith, first-most (w .store))) h above (omega arith)))
+
+-- ---- the log
+
+-- the world with one action more, and the requests counted
+abbrev Logged : World → List ℕ → ℕ → World
+Logged w action requests = record {
+  store = w .store;
+  log = write (w .log) (w .at .logged) action;
+  outcomes = w .outcomes;
+  at = record { logged = w .at .logged + 16; taken = w .at .taken; requests = requests };
+}
+
+log-onward : {w : World} (action : List ℕ) (requests : ℕ) → length action ≡ 16 → requests ≡ w .at .requests + requestsIn 1 action → Onward w (Logged w action requests)
+log-onward {w} action requests long e = record {
+  store = refl;
+  free = omega arith;
+  first = omega arith;
+  outcomes = refl;
+  taken = omega arith;
+  actions = 1;
+  news = action;
+  news-length = long;
+  log = refl;
+  logged = refl;
+  requests = e;
+}
+
+log-good : {w : World} (action : List ℕ) (requests : ℕ) → Bytes action → w .at .logged + 16 ≤ length (w .log) → Good w → Good (Logged w action requests)
+log-good {w} action requests b room g = record {
+  whole = g .whole;
+  logged = omega (arith, length-write (w .log) (w .at .logged) action);
+  taken = g .taken;
+  store = g .store;
+  log = bytes-write (w .log) (w .at .logged) action (g .log) b;
+  outcomes = g .outcomes;
+  most = g .most;
+  child = g .child;
+}
+
+module _ {n : ℕ} (action : List ℕ) (long : length action ≡ 16) (b : Bytes action) where
+  -- an action that is no request
+  pub logs : requestsIn 1 action ≡ 0 → Goes n (logAction action)
+  unfolding logAction _>>=_ _>>_ look when stop skip change
+  logs none = record { run = λ w g l. go w g (ltb (length (w .log) - w .at .logged) 16) refl }
+    where
+      go : (w : World) → Good w → (t : Bool) → ltb (length (w .log) - w .at .logged) 16 ≡ t → Went Any w (on (cond t (stop {A = Unit {0}} LogFull) skip w) (λ _. change (appended action)))
+      go w g true e = halted (onward-same w) g
+      go w g false e =
+          went (log-onward action (w .at .requests) long (omega (arith, none))) (log-good {w = w} action (w .at .requests) b (omega (arith, ltb-false (length (w .log) - w .at .logged) 16 e, g .logged)) g) tt
+
+  -- a request, which is counted
+  pub sends : requestsIn 1 action ≡ 1 → Goes n (logRequest action)
+  unfolding logRequest logAction _>>=_ _>>_ look when stop skip change
+  sends one = record { run = λ w g l. go w g (ltb (length (w .log) - w .at .logged) 16) refl }
+    where
+      go : (w : World) → Good w → (t : Bool) → ltb (length (w .log) - w .at .logged) 16 ≡ t → Went Any w (on (on (cond t (stop {A = Unit {0}} LogFull) skip w) (λ _. change (appended action))) (λ _. change counted))
+      go w g true e = halted (onward-same w) g
+      go w g false e =
+          went (log-onward action (w .at .requests + 1) long (omega (arith, one))) (log-good {w = w} action (w .at .requests + 1) b (omega (arith, ltb-false (length (w .log) - w .at .logged) 16 e, g .logged)) g) tt
+
+module _ {n : ℕ} where
+  pub waits : (microseconds : ℕ) → Goes n (microDelay microseconds)
+  unfolding microDelay requestsIn
+  waits microseconds =
+      logs (waitAction microseconds) (wait-length microseconds) (bytes-append (bytes-cons (omega arith) (zeros 7)) (bytes-append (bytes-le 4 microseconds) (zeros 4))) refl
+
+  pub frames : Goes n dwcUpdateHostFrameInterval
+  unfolding dwcUpdateHostFrameInterval requestsIn
+  frames = logs frameIntervalAction frame-length (bytes-cons (omega arith) (zeros 15)) refl
+
+-- ---- a control message
+
+-- a request whose two code bytes are bytes
+pub record Byte-codes (q : UsbDeviceRequest) : Type 0 where
+  pub type : q .«request_type» < 256
+  pub code : q .request < 256
+
+direction-low : (t : ℕ) → directionBit t < 256
+unfolding directionBit
+direction-low t = go (leb 128 t)
+  where
+    go : (b : Bool) → cond {A = ℕ} b 1 0 < 256
+    go true = omega arith
+    go false = omega arith
+
+packet-low : (n : ℕ) → packetSize n < 256
+unfolding packetSize
+packet-low n = go (ltb n 9) (ltb n 17) (ltb n 33)
+  where
+    go : (a b c : Bool) → cond {A = ℕ} a 0 (cond b 1 (cond c 2 3)) < 256
+    go true b c = omega arith
+    go false true c = omega arith
+    go false false true = omega arith
+    go false false false = omega arith
+
+request-bytes : (pipe : UsbPipeAddress) (q : UsbDeviceRequest) → pipe .device < 256 → pipe .speed < 256 → pipe .«max_size» < 256 → Byte-codes q → Bytes (requestAction pipe q)
+request-bytes pipe q a s m c =
+    bytes-cons (omega arith) (bytes-cons a (bytes-cons (direction-low (q .«request_type»)) (bytes-cons s (bytes-cons m (bytes-cons (omega arith) (bytes-cons (omega arith) (bytes-cons (omega arith)
+    (bytes-cons (c .type) (bytes-cons (c .code) (bytes-append (bytes-le 2 (q .value)) (bytes-append (bytes-le 2 (q .index)) (bytes-le 2 (q .length)))))))))))))
+
+took-onward : {w : World} (k : ℕ) → Onward w (taken k w)
+took-onward {w} k =
+    let o : Onward w w = onward-same w in
+    record {
+      store = refl;
+      free = omega arith;
+      first = omega arith;
+      outcomes = refl;
+      taken = omega arith;
+      actions = o .actions;
+      news = o .news;
+      news-length = o .news-length;
+      log = o .log;
+      logged = o .logged;
+      requests = o .requests;
+    }
+
+took-good : {w : World} (k : ℕ) → w .at .taken + k ≤ length (w .outcomes) → Good w → Good (taken k w)
+took-good k l g = record {
+  whole = g .whole;
+  logged = g .logged;
+  taken = l;
+  store = g .store;
+  log = g .log;
+  outcomes = g .outcomes;
+  most = g .most;
+  child = g .child;
+}
+
+pub takes : {n : ℕ} (asked : ℕ) → Walks n (takeOutcome asked) (λ o. Bytes (o .delivered))
+unfolding takeOutcome _>>=_ _>>_ look when stop skip change return
+takes {n} asked = record {
+  run = λ w g l.
+      let rest : List ℕ = drop (w .at .taken) (w .outcomes) in
+      go w g rest refl (ltb (length rest) 4) (not (listed (getD rest 0 0) (getD rest 1 0))) (ltb (length rest) (4 + fromLittleEndian (take 2 (drop 2 rest)))) refl;
+}
+  where
+    go : (w : World) → Good w → (rest : List ℕ) → rest ≡ drop (w .at .taken) (w .outcomes) → (short garbled cut : Bool) → ltb (length rest) (4 + fromLittleEndian (take 2 (drop 2 rest))) ≡ cut
+        → Went (λ (o : Outcome). Bytes (o .delivered)) w
+        ((cond short (stop {A = Unit {0}} OutcomesSpent) skip >> (cond garbled (stop {A = Unit {0}} GarbledOutcome) skip >> (cond cut (stop {A = Unit {0}} OutcomesSpent) skip >> (change (taken (4 + fromLittleEndian (take 2 (drop 2 rest)))) >> return (record { submit = getD rest 0 0; error = getD rest 1 0; delivered = take (min (fromLittleEndian (take 2 (drop 2 rest))) asked) (drop 4 rest) }))))) w)
+    go w g rest e true garbled cut t = halted (onward-same w) g
+    go w g rest e false true cut t = halted (onward-same w) g
+    go w g rest e false false true t = halted (onward-same w) g
+    go w g rest e false false false t =
+        let size : ℕ = fromLittleEndian (take 2 (drop 2 rest)) in
+        let here : length rest ≡ length (w .outcomes) - w .at .taken = ap length e ∙ length-drop (w .at .taken) (w .outcomes) in
+        went (took-onward (4 + size))
+        (took-good (4 + size) (omega (arith, ltb-false (length rest) (4 + size) t, g .taken)) g)
+        (bytes-take (min size asked) (drop 4 rest) (bytes-drop 4 rest (subst Bytes (sym e) (bytes-drop (w .at .taken) (w .outcomes) (g .outcomes)))))
+
+-- where delivered bytes may go: no key of the place
+pub data Fits (b : Buffer) : Type 0 where
+  room-none : b .room ≡ 0 → Fits b
+  plain : Plain (b .field) (b .room) → Fits b
+
+delivers : {n : ℕ} (p : ℕ) (b : Buffer) (vs : List ℕ) → Fits b → Bytes vs → Goes n (putBytes p (b .field) (take (b .room) vs))
+delivers p b vs (room-none e) c = rw e (puts-none p (b .field))
+delivers p b vs (plain r) c = puts-bytes p (b .field) (b .room) _ r (omega (arith, length-take (b .room) vs)) (bytes-take (b .room) vs c)
+
+module _ {n : ℕ} (p : ℕ) (q : UsbDeviceRequest) (b : Buffer) (c : Byte-codes q) (fits : Fits b) where
+  pub messages : (address : ℕ) → address < 256 → Walks n (usbControlMessage p address q b) Bytes
+  unfolding usbControlMessage requestsIn
+  messages address h =
+      bind (gets p _) λ speed s.
+      bind (gets p _) λ size _.
+      let pipe : UsbPipeAddress = record { device = address; speed = speed; «max_size» = packetSize size } in
+      next (sends (requestAction pipe q) (request-length pipe q) (request-bytes pipe q h s (packet-low size) c) refl) (
+      bind (takes _) λ o d.
+      next (puts-number p Error 4 _ (record { past = omega arith; room = omega arith; apart = inl (omega arith) })) (
+      next (delivers p b (o .delivered) fits d) (
+      next (puts-number p LastTransfer 4 _ (record { past = omega arith; room = omega arith; apart = inl (omega arith) })) (
+      next (succeeds _) (gives _ d)))))
+
+  pub controls : Walks n (control p q b) Bytes
+  unfolding control
+  controls = bind (gets p _) λ address h. messages address h
+
+  pub reads : (minimum : ℕ) → Walks n (read p q minimum b) Bytes
+  unfolding read
+  reads minimum = bind controls λ bytes h. next (whens _ (throws _)) (gives bytes h)

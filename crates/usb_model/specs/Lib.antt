@@ -1,0 +1,11 @@
+pub mod Programs
+pub mod World
+pub mod Features
+pub mod Transfer
+pub mod Walk
+pub mod Usbd
+pub mod Hub
+pub mod Attach
+pub mod Entry
+pub mod Kept
+pub mod Bench

@@ -1,0 +1,8 @@
+// What is right: specs/ defines every function of the driver and every entry point, proofs/ has the laws on them.
+
+// How far a call has come: bytes of the log written, bytes of the outcomes taken, requests logged.
+pub struct Progress {
+    pub logged: usize,
+    pub taken: usize,
+    pub requests: usize,
+}
