@@ -33,6 +33,9 @@ bytes-long : (s : List ℕ) (p f n : ℕ) → length (bytesAt s p f n) ≡ min n
 unfolding bytesAt
 bytes-long s p f n = simp (length-take, length-drop)
 
+pub bytes-most : (s : List ℕ) (p f n : ℕ) → length (bytesAt s p f n) ≤ n
+bytes-most s p f n = omega (arith, bytes-long s p f n)
+
 pub bytes-length : (s : List ℕ) (p f n : ℕ) → offset p f + n ≤ length s → length (bytesAt s p f n) ≡ n
 bytes-length s p f n h = omega (arith, bytes-long s p f n)
 

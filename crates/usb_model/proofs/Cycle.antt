@@ -24,12 +24,12 @@ module _ {k : ℕ} (attach attach′ : ℕ → M (Unit {0})) (attaches : (place 
       bind₁ (gets hub (Child port)) λ child _.
       next₁ (whens _ (throws _)) (next₁ (waits _) (next₁ (reset2 hub port l) (
       allocate₂ λ place m inside.
-      next₁ (puts-child hub port (place + 1) l (omega arith) (omega arith)) (
+      next₁ (puts-child hub port _ l (omega arith) (omega arith)) (
       next₁ (port-get-status hub port l) (
       bind₁ (port-status hub port) λ after _.
       next₁ (puts place Speed _ (small Speed (omega arith) (omega arith)) (speed-low after)) (
-      next₁ (puts place Parent (hub + 1) (small Parent (omega arith) (omega arith)) (omega arith)) (
-      next₁ (puts place PortNumber port (small PortNumber (omega arith) (omega arith)) (omega arith)) (
+      next₁ (puts place Parent _ (small Parent (omega arith) (omega arith)) (omega arith)) (
+      next₁ (puts place PortNumber _ (small PortNumber (omega arith) (omega arith)) (omega arith)) (
       attaches place inside))))))))))))
 
   pub check-connection : (hub port : ℕ) → hub < n → port < 10 → Alike n (suc k) (hubCheckConnection attach hub port) (hubCheckConnection attach′ hub port)
@@ -57,10 +57,10 @@ module _ {k : ℕ} (attach attach′ : ℕ → M (Unit {0})) (attaches : (place 
       bind₁ (gets hub _) λ address _. next₁ (whens _ (throws _)) (
       bind₁ (gets hub _) λ attributes _. next₁ (whens _ (throws _)) (
       next₁ (puts hub Hub _ (small Hub (omega arith) (omega arith)) (omega arith)) (
-      next₁ (puts-most hub 1 h (omega arith)) (
+      next₁ (puts-most hub _ h (omega arith)) (
       next₁ (read-hub-descriptor hub) (
       bind₁ (gets hub _) λ ports _.
-      next₁ (puts-most hub (min ports 10) h (omega arith)) (
+      next₁ (puts-most hub _ h (omega arith)) (
       next₁ (get-status hub) (next₁ (power-on hub) (next₁ (get-status hub) (
       bind₁ (gets-most hub) λ children most.
       eachs₂ children 0 (λ port l. ignores₂ (check-connection hub port h (omega (arith, most))))))))))))))
@@ -69,7 +69,7 @@ module _ {k : ℕ} (attach attach′ : ℕ → M (Unit {0})) (attaches : (place 
   unfolding usbAttachDevice
   attach-device place h =
       bind₁ (gets place Number) λ address a.
-      next₁ (puts place Number 0 (small Number (omega arith) (omega arith)) (omega arith)) (
+      next₁ (puts place Number _ (small Number (omega arith) (omega arith)) (omega arith)) (
       next₁ (read-device-descriptor place) (
       next₁ (puts place Status _ (small Status (omega arith) (omega arith)) (omega arith)) (
       bind₁ (attempts (set-address place address a)) λ result _.

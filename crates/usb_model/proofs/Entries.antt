@@ -1,13 +1,13 @@
 -- Every call leaves what `Accounts` says, refused or not. Assumes nothing.
-use mathlib.Core.Path.{_≡_, refl, sym, ap, _∙_}
-use mathlib.Core.Bool.{Bool, true, false, cond, not, _||_, false≢true}
-use mathlib.Core.Logic.{⊎-elim, _≢_}
+use mathlib.Core.Path.{_≡_, refl, sym, _∙_}
+use mathlib.Core.Bool.{Bool, true, false, cond, not, _||_}
+use mathlib.Core.Logic.{_≢_}
 use mathlib.Core.List.{List, []}
 use Prim.Native.Nat.{ℕ, _+_, _-_, _≤_, _<_}
 use native.Mathlib.Omega.{arith}
 use native.Mathlib.Decide.{decLt}
-use borrow.Author.Tests.{leb-false, ltb-false, eqb-true, eqb-false, not-false}
-use lib.Dec.{eqb, leb, ltb}
+use borrow.Author.Tests.{ltb-false}
+use lib.Dec.{eqb, ltb}
 use lib.IntN.{ℤ}
 use lib.ListN.{length, List·getD-eq-default}
 use Rattle.usb_types.specs.Numbers.{minus}
@@ -20,22 +20,22 @@ use Rattle.usb_types.specs.declared.types.Answer.{Answer}
 use Rattle.usb_types.specs.declared.types.Answer.the-variants.{Ok, Error, Stop}
 use Rattle.usb_types.specs.declared.types.Refusal.{Refusal}
 use Rattle.usb_types.specs.declared.types.Refusal.the-variants.{BadArgument, StoreDamaged, AlreadyAttached, RootSpeed}
-use Rattle.usb_device.specs.Layout.{Places, StoreLength, Used, Hub, Child, MaxChildren}
+use Rattle.usb_device.specs.Layout.{StoreLength, Child, MaxChildren}
 use Rattle.usb_device.specs.Access.{byteAt}
-use Rattle.usb_device.specs.Device.{firstUnused}
 use Rattle.usb_device.proofs.Writes.{write-nil}
-use Rattle.usb_device.proofs.Free.{first-least, free-most}
+use Rattle.usb_device.proofs.Free.{free-most}
 use Rattle.usb_sound.specs.Sound.{Sound}
-use Rattle.usb_sound.proofs.Decides.{decides}
 use Rattle.usb_sound.proofs.Hubs.{child-below}
 use Rattle.usb_model.specs.Programs.{Ran}
 use Rattle.usb_model.specs.World.{World, M}
 use Rattle.usb_model.specs.Walk.{RecordLength, walk}
 use Rattle.usb_model.specs.Attach.{attachNew, usbAttachRootHub}
-use Rattle.usb_model.specs.Entry.{Lent, Verdict, accepted, refused, refusedIf, _elseIf_, wrongLength, damaged, isUnused, noHub, noPort, rootVerdict, hubVerdict, start, leaves, answered, call, rootAttach, scan, portCheck, childReset, childCheck, retriedReset, connectionChange, configurationWalk}
+use Rattle.usb_model.specs.Entry.{Lent, Verdict, accepted, refused, isUnused, noPort, rootVerdict, hubVerdict, start, leaves, answered, call, rootAttach, scan, portCheck, childReset, childCheck, retriedReset, connectionChange, configurationWalk}
 use Rattle.usb_model.specs.Kept.{Bytes, requestsIn, Above, Good, Onward, Listed, LentBytes, Accounts, WalkAccounts}
-use Rattle.usb_model.proofs.Walks.{Went, went, failed, halted, Any}
-use Rattle.usb_model.proofs.Record.{walk-record}
+use Rattle.usb_model.proofs.Accepted.{used-below, root-accepted, hub-accepted}
+use Rattle.usb_model.proofs.Keeps.{Any}
+use Rattle.usb_model.proofs.Walks.{Went, went, failed, halted}
+use Rattle.usb_model.proofs.Record.{walk-long, walk-bytes}
 use Rattle.usb_model.proofs.Functions.{child-reset, reset}
 use Rattle.usb_model.proofs.Pairs.{Alike, one}
 use Rattle.usb_model.proofs.Cycle.{attach-walks, connection-changed, check-connection, check-device, root-hub, check-for-change}
@@ -46,14 +46,6 @@ use Rattle.usb_model.proofs.Cycle.{attach-walks, connection-changed, ch
 outside : (s : List ℕ) (h f : ℕ) → length s ≡ StoreLength → 32 ≤ h → byteAt s h f ≡ 0
 unfolding byteAt
 outside s h f whole l = List·getD-eq-default s 0 (omega arith)
-
--- the places up to a used one are used
-used-below : (s : List ℕ) → Sound s → (p : ℕ) → p < 32 → byteAt s p Used ≡ 1 → p + 1 ≤ firstUnused s
-used-below s r p l u = first-least s (p + 1) (omega arith) (λ q h. go q h (decLt q p))
-  where
-    go : (q : ℕ) → q < p + 1 → Dec (q < p) → byteAt s q Used ≢ 0
-    go q h (yes m) z = omega (arith, z, r .packed q p m (l, u) .1)
-    go q h (no m) z = let e : q ≡ p = omega arith in omega (arith, u, ap (λ (k : ℕ). byteAt s k Used) (sym e) ∙ z)
 
 module _ (lent : Lent) (bytes : LentBytes lent) (r : Sound (lent .old)) where
   pub start-good : Good (start lent)
@@ -149,59 +141,6 @@ module _ (lent : Lent) (bytes : LentBytes lent) where
     requests = refl;
   }
 
--- ---- what an accepted call has passed
-
-abbrev isAccepted : Verdict → Bool
-isAccepted accepted = true
-isAccepted (refused r) = false
-
-passed : (b : Bool) (r : Refusal) (v : Verdict) → (refusedIf b r elseIf v) ≡ accepted → (b ≡ false) × (v ≡ accepted)
-passed true r v e = absurd (false≢true (ap isAccepted e))
-passed false r v e = (refl, e)
-
-passed-last : (b : Bool) (r : Refusal) → refusedIf b r ≡ accepted → b ≡ false
-passed-last true r e = absurd (false≢true (ap isAccepted e))
-passed-last false r e = refl
-
-neither : (a b : Bool) → (a || b) ≡ false → (a ≡ false) × (b ≡ false)
-neither true b e = absurd (false≢true (sym e))
-neither false b e = (refl, e)
-
--- a store that was accepted
-record Accepted (lent : Lent) : Type 0 where
-  lengths : length (lent .new) ≡ length (lent .old)
-  is-sound : Sound (lent .old)
-
-accepts : (lent : Lent) → wrongLength lent ≡ false → damaged lent ≡ false → Accepted lent
-accepts lent l d =
-    let n = neither (not (eqb (length (lent .old)) StoreLength)) (not (eqb (length (lent .new)) StoreLength)) l in
-    record {
-      lengths = eqb-true (length (lent .new)) StoreLength (not-false _ (n .1)) ∙ sym (eqb-true (length (lent .old)) StoreLength (not-false _ (n .0)));
-      is-sound = decides (lent .old) .only (not-false _ d);
-    }
-
-hub-accepted : (lent : Lent) (hub : ℕ) (bad : Bool) → hubVerdict lent hub bad ≡ accepted → Accepted lent × ((noHub lent hub || bad) ≡ false)
-unfolding hubVerdict
-hub-accepted lent hub bad e =
-    let a = passed (wrongLength lent) BadArgument _ e in
-    let b = passed (damaged lent) StoreDamaged _ (a .1) in
-    (accepts lent (a .0) (b .0), passed-last (noHub lent hub || bad) BadArgument (b .1))
-
-root-accepted : (lent : Lent) (speed : ℕ) → rootVerdict lent speed ≡ accepted → Accepted lent × (speed ≤ 3)
-unfolding rootVerdict
-root-accepted lent speed e =
-    let a = passed (wrongLength lent || ltb 3 speed) BadArgument _ e in
-    let b = passed (damaged lent) StoreDamaged _ (a .1) in
-    let c = neither (wrongLength lent) (ltb 3 speed) (a .0) in
-    (accepts lent (c .0) (b .0), ltb-false 3 speed (c .1))
-
-hub-known : (lent : Lent) (hub : ℕ) → Sound (lent .old) → noHub lent hub ≡ false → hub + 1 ≤ firstUnused (lent .old)
-hub-known lent hub r e =
-    let a = neither (isUnused lent hub) (eqb (byteAt (lent .old) hub Hub) 0) e in
-    let b = neither (leb Places hub) (eqb (byteAt (lent .old) hub Used) 0) (a .0) in
-    let inside : hub < 32 = leb-false Places hub (b .0) in
-    used-below (lent .old) r hub inside (⊎-elim (λ z. absurd (eqb-false _ 0 (b .1) z)) (⊎-elim (λ u. u) (λ z. absurd z)) (r .used hub inside))
-
 -- ---- the entry points
 
 module _ (lent : Lent) (bytes : LentBytes lent) where
@@ -209,15 +148,13 @@ module _ (lent : Lent) (bytes : LentBytes lent) where
   of-hub : (hub : ℕ) (bad : Bool) (m : M (Unit {0})) → (bad ≡ false → Alike (hub + 1) 33 m m) → Accounts lent (call lent (hubVerdict lent hub bad) m)
   of-hub hub bad m h = called lent bytes _ m (λ e.
       let x = hub-accepted lent hub bad e in
-      let y = neither (noHub lent hub) bad (x .1) in
-      let r = x .0 .is-sound in
-      (x .0 .lengths, h (y .1) .run (start lent) (start-good lent bytes r) (hub-known lent hub r (y .0)) (omega (arith, free-most (lent .old))) .walk))
+      (x .lengths, h (x .good) .run (start lent) (start-good lent bytes (x .is-sound)) (x .first) (omega (arith, free-most (lent .old))) .walk))
 
   pub root-attach-accounts : (speed : ℕ) → Accounts lent (rootAttach speed lent)
   unfolding rootAttach
   root-attach-accounts speed = called lent bytes (rootVerdict lent speed) (usbAttachRootHub speed) (λ e.
       let x = root-accepted lent speed e in
-      (x .0 .lengths, root-hub speed (omega (arith, x .1)) .run (start lent) (start-good lent bytes (x .0 .is-sound)) (omega arith) (omega (arith, free-most (lent .old))) .walk))
+      (x .lengths, root-hub speed (omega (arith, x .low)) .run (start lent) (start-good lent bytes (x .is-sound)) (omega arith) (omega (arith, free-most (lent .old))) .walk))
 
   pub scan-accounts : (hub : ℕ) → Accounts lent (scan hub lent)
   unfolding scan
@@ -249,6 +186,4 @@ walk-accounts d kept b c = go (ltb 65535 (length d) || not (eqb (length kept) Re
   where
     go : (bad : Bool) → WalkAccounts kept (cond bad (record { answer = refusalNumber BadArgument; kept = kept }) (record { answer = answerNumber (walk d kept .answer); kept = walk d kept .kept }))
     go true = record { answer = refusal-listed BadArgument; kept-length = refl; kept-bytes = c }
-    go false =
-        let r = walk-record d kept b c in
-        record { answer = answer-listed (walk d kept .answer); kept-length = r .0; kept-bytes = r .1 }
+    go false = record { answer = answer-listed (walk d kept .answer); kept-length = walk-long d kept; kept-bytes = walk-bytes d kept b c }

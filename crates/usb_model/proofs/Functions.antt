@@ -16,7 +16,7 @@ use Rattle.usb_model.specs.Hub.{hubReadDescriptor, hubGetStatus, hubChan
 use Rattle.usb_model.specs.Kept.{Bytes}
 use Rattle.usb_model.proofs.Bytes.{bytes-blank}
 use Rattle.usb_model.proofs.Stores.{Plain}
-use Rattle.usb_model.proofs.Record.{walk-record}
+use Rattle.usb_model.proofs.Record.{walk-long, walk-bytes}
 use Rattle.usb_model.proofs.Walks.{Walks, Goes, bind, next, gives, skips, throws, succeeds, ignores, either, whens, unless, eachs}
 use Rattle.usb_model.proofs.Primitives.{gets, gets-most, gets-number, gets-bytes, puts, puts-bytes, waits, Byte-codes, Fits, room-none, plain, messages, controls, reads}
 
@@ -34,7 +34,7 @@ direction-most code = go (eqb code GetStatus || eqb code GetDescriptor || eqb co
     go true = omega arith
     go false = omega arith
 
-codes : (recipient code value index size : ℕ) → recipient < 128 → code < 256 → Byte-codes (deviceRequest recipient code value index size)
+pub codes : (recipient code value index size : ℕ) → recipient < 128 → code < 256 → Byte-codes (deviceRequest recipient code value index size)
 unfolding deviceRequest
 codes recipient code value index size r c = record { type = omega (arith, direction-most code); code = c }
 
@@ -78,7 +78,7 @@ module _ {n : ℕ} where
   set-address p address h =
       bind (gets p Status) λ status _.
       next (whens _ (throws _)) (
-      next (messages p _ nowhere (codes ToDevice SetAddress address 0 0 (omega arith) (omega arith)) none 0 (omega arith)) (
+      next (messages p _ nowhere (codes ToDevice SetAddress _ 0 0 (omega arith) (omega arith)) none 0 (omega arith)) (
       next (waits _) (
       next (puts p Number address (small Number (omega arith) (omega arith)) h)
       (puts p Status _ (small Status (omega arith) (omega arith)) (omega arith)))))
@@ -88,7 +88,7 @@ module _ {n : ℕ} where
   set-configure p value h =
       bind (gets p Status) λ status _.
       next (whens _ (throws _)) (
-      next (controls p _ nowhere (codes ToDevice SetConfiguration value 0 0 (omega arith) (omega arith)) none) (
+      next (controls p _ nowhere (codes ToDevice SetConfiguration _ 0 0 (omega arith) (omega arith)) none) (
       next (puts p ConfigurationIndex value (small ConfigurationIndex (omega arith) (omega arith)) h)
       (puts p Status _ (small Status (omega arith) (omega arith)) (omega arith))))
 
@@ -102,8 +102,7 @@ module _ {n : ℕ} where
       bind (descriptors p ToDevice 2 index total total (omega arith) none) λ full b.
       next (puts p ConfigurationIndex index (small ConfigurationIndex (omega arith) (omega arith)) h) (
       bind (gets-bytes p Interfaces RecordLength) λ kept c.
-      let r = walk-record full kept b (c .0) in
-      next (puts-bytes p Interfaces RecordLength _ (record { past = omega arith; room = omega arith; apart = inr (omega arith) }) (omega (arith, r .0, c .1)) (r .1)) (
+      next (puts-bytes p Interfaces RecordLength _ (record { past = omega arith; room = omega arith; apart = inr (omega arith) }) (omega (arith, walk-long full kept, c .1)) (walk-bytes full kept b (c .0))) (
       next (succeeds _) (
       bind (gets p _) λ value v. set-configure p value v)))))
 
@@ -120,7 +119,7 @@ module _ {n : ℕ} where
 
   pub get-status : (p : ℕ) → Goes n (hubGetStatus p)
   unfolding hubGetStatus
-  get-status p = next (reads p _ _ (codes ToHub GetStatus 0 0 4 (omega arith) (omega arith)) (low HubStatus 4 (omega arith) (omega arith)) 4) skips
+  get-status p = next (reads p _ _ (codes ToHub GetStatus 0 0 4 (omega arith) (omega arith)) (low HubStatus _ (omega arith) (omega arith)) _) skips
 
   pub change-feature : (p feature port : ℕ) (set : Bool) → Goes n (hubChangePortFeature p feature port set)
   unfolding hubChangePortFeature
@@ -135,11 +134,11 @@ module _ {n : ℕ} where
   power-on p =
       bind (gets p Hub) λ data′ _.
       whens _ (bind (gets p _) λ count _. bind (gets p _) λ delay _.
-      next (eachs count 0 (λ port _. ignores (change-feature p _ port true))) (waits _))
+      next (eachs _ _ (λ port _. ignores (change-feature p _ port true))) (waits _))
 
   pub port-get-status : (p port : ℕ) → port < 10 → Goes n (hubPortGetStatus p port)
   unfolding hubPortGetStatus
-  port-get-status p port h = next (reads p _ _ (codes ToPort GetStatus 0 (port + 1) 4 (omega arith) (omega arith)) (low (PortStatus port) 4 (omega arith) (omega arith)) 4) skips
+  port-get-status p port h = next (reads p _ _ (codes ToPort GetStatus 0 (port + 1) 4 (omega arith) (omega arith)) (low (PortStatus port) _ (omega arith) (omega arith)) _) skips
 
   pub port-status : (p port : ℕ) → Goes n (portStatus p port)
   unfolding portStatus
@@ -156,7 +155,7 @@ module _ {n : ℕ} where
   unfolding hubPortReset2
   reset2 p port h =
       next (ignores (change-feature p _ port false)) (next (change-feature p _ port true) (
-      bind (await-reset 21 p port h) λ seen _.
+      bind (await-reset _ p port h) λ seen _.
       next (change-feature p _ port false) (next (whens _ (throws _)) (waits _))))
 
   pub await-enabled : (reads p port : ℕ) → port < 10 → Goes n (awaitEnabled reads p port)
@@ -170,13 +169,13 @@ module _ {n : ℕ} where
   unfolding resetTries
   tries zero p port h = skips
   tries (suc count) p port h =
-      next (change-feature p _ port true) (bind (await-enabled 10 p port h) λ seen _.
+      next (change-feature p _ port true) (bind (await-enabled _ p port h) λ seen _.
       bind (port-status p port) λ status _.
       next (whens _ (throws _)) (either (seen && bit PORT-ENABLE status) skips (tries count p port h)))
 
   pub reset : (p port : ℕ) → port < 10 → Goes n (hubPortReset p port)
   unfolding hubPortReset
-  reset p port h = next (tries 3 p port h) (next (ignores (change-feature p _ port false)) (ignores (change-feature p _ port false)))
+  reset p port h = next (tries _ p port h) (next (ignores (change-feature p _ port false)) (ignores (change-feature p _ port false)))
 
   pub port-of-child : (p child : ℕ) → Walks n (portOfChild p child) (λ port. port < 10)
   unfolding portOfChild

@@ -18,7 +18,8 @@ use Rattle.usb_model.specs.Usbd.{usbAllocateDevice}
 use Rattle.usb_model.specs.Kept.{Above, Good, Onward}
 use Rattle.usb_model.proofs.Onward.{onward-same}
 use Rattle.usb_model.proofs.Stores.{new-follows, first-new, free-new, store-onward, store-good}
-use Rattle.usb_model.proofs.Walks.{Went, went, failed, halted, earlier, Walks, Any, skips, caught-goes}
+use Rattle.usb_model.proofs.Keeps.{Any}
+use Rattle.usb_model.proofs.Walks.{Went, went, failed, halted, earlier, Walks, skips, caught-goes}
 
 -- how two programs that do the same end
 pub record Same {A : Type 0} (Q : A → Type 0) (w : World) (r r′ : Ran World A) : Type 0 where

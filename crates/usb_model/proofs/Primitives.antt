@@ -18,7 +18,8 @@ use Rattle.usb_types.specs.declared.types.Halt.the-variants.{GarbledOutcome, Ou
 use Rattle.usb_types.specs.declared.request.UsbDeviceRequest.{UsbDeviceRequest}
 use Rattle.usb_types.specs.declared.pipe.UsbPipeAddress.{UsbPipeAddress}
 use Rattle.usb_device.specs.Layout.{Child, MaxChildren, Error, LastTransfer}
-use Rattle.usb_device.specs.Access.{write, bytesAt, offset}
+use Rattle.usb_device.specs.Access.{write}
+use Rattle.usb_device.proofs.Fields.{bytes-most}
 use Rattle.usb_device.proofs.Writes.{length-write}
 use Rattle.usb_device.proofs.Free.{first-most}
 use Rattle.usb_model.specs.Programs.{on, _>>=_, _>>_, return, skip, stop, look, change, when}
@@ -28,16 +29,13 @@ use Rattle.usb_model.specs.Kept.{Bytes, requestsIn, Good, Onward}
 use Rattle.usb_model.proofs.Bytes.{bytes-one, bytes-cons, bytes-append, zeros, bytes-le, bytes-take, bytes-drop, bytes-write, bytes-at, byte-at}
 use Rattle.usb_model.proofs.Onward.{onward-same}
 use Rattle.usb_model.proofs.Stores.{Plain, plain-less, none-follows, plain-follows, most-follows, child-follows, store-onward, store-good, Follows}
-use Rattle.usb_model.proofs.Walks.{Went, went, halted, Walks, Any, Goes, bind, next, gives, throws, looks, changes, succeeds, whens}
+use Rattle.usb_model.proofs.Keeps.{Any}
+use Rattle.usb_model.proofs.Walks.{Went, went, halted, Walks, Goes, bind, next, gives, throws, looks, changes, succeeds, whens}
 
 -- ---- the store
 
 written : {w : World} (t : List ℕ) → Good w → Follows (w .store) t → Onward w (withStore t w) × Good (withStore t w)
 written t g f = (store-onward t f, store-good t f g)
-
-bytes-most : (s : List ℕ) (p f k : ℕ) → length (bytesAt s p f k) ≤ k
-unfolding bytesAt
-bytes-most s p f k = omega (arith, length-take k (drop (offset p f) s))
 
 module _ {n : ℕ} where
   pub gets : (p f : ℕ) → Walks n (get p f) (λ v. v < 256)
@@ -83,7 +81,7 @@ module _ {n : ℕ} where
 -- ---- the log
 
 -- the world with one action more, and the requests counted
-abbrev Logged : World → List ℕ → ℕ → World
+abbrev pub Logged : World → List ℕ → ℕ → World
 Logged w action requests = record {
   store = w .store;
   log = write (w .log) (w .at .logged) action;
@@ -106,7 +104,7 @@ log-onward {w} action requests long e = record {
   requests = e;
 }
 
-log-good : {w : World} (action : List ℕ) (requests : ℕ) → Bytes action → w .at .logged + 16 ≤ length (w .log) → Good w → Good (Logged w action requests)
+pub log-good : {w : World} (action : List ℕ) (requests : ℕ) → Bytes action → w .at .logged + 16 ≤ length (w .log) → Good w → Good (Logged w action requests)
 log-good {w} action requests b room g = record {
   whole = g .whole;
   logged = omega (arith, length-write (w .log) (w .at .logged) action);
@@ -164,7 +162,7 @@ direction-low t = go (leb 128 t)
     go true = omega arith
     go false = omega arith
 
-packet-low : (n : ℕ) → packetSize n < 256
+pub packet-low : (n : ℕ) → packetSize n < 256
 unfolding packetSize
 packet-low n = go (ltb n 9) (ltb n 17) (ltb n 33)
   where
@@ -174,7 +172,7 @@ packet-low n = go (ltb n 9) (ltb n 17) (ltb n 33)
     go false false true = omega arith
     go false false false = omega arith
 
-request-bytes : (pipe : UsbPipeAddress) (q : UsbDeviceRequest) → pipe .device < 256 → pipe .speed < 256 → pipe .«max_size» < 256 → Byte-codes q → Bytes (requestAction pipe q)
+pub request-bytes : (pipe : UsbPipeAddress) (q : UsbDeviceRequest) → pipe .device < 256 → pipe .speed < 256 → pipe .«max_size» < 256 → Byte-codes q → Bytes (requestAction pipe q)
 request-bytes pipe q a s m c =
     bytes-cons (omega arith) (bytes-cons a (bytes-cons (direction-low (q .«request_type»)) (bytes-cons s (bytes-cons m (bytes-cons (omega arith) (bytes-cons (omega arith) (bytes-cons (omega arith)
     (bytes-cons (c .type) (bytes-cons (c .code) (bytes-append (bytes-le 2 (q .value)) (bytes-append (bytes-le 2 (q .index)) (bytes-le 2 (q .length)))))))))))))
@@ -196,7 +194,7 @@ took-onward {w} k =
       requests = o .requests;
     }
 
-took-good : {w : World} (k : ℕ) → w .at .taken + k ≤ length (w .outcomes) → Good w → Good (taken k w)
+pub took-good : {w : World} (k : ℕ) → w .at .taken + k ≤ length (w .outcomes) → Good w → Good (taken k w)
 took-good k l g = record {
   whole = g .whole;
   logged = g .logged;

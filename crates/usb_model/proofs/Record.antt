@@ -1,6 +1,6 @@
 -- The configuration walk: the record keeps its length and stays a list of bytes, and any number that bounds the bytes left gives the
 -- same walk. Assumes nothing.
-use mathlib.Core.Path.{_≡_, refl, _∙_}
+use mathlib.Core.Path.{_≡_, refl, sym, ap, _∙_, subst}
 use mathlib.Core.Bool.{Bool, true, false, cond}
 use mathlib.Core.List.{List, [], _∷_}
 use Prim.Native.Nat.{ℕ, zero, suc, _+_, _-_, _≤_}
@@ -12,110 +12,83 @@ use Rattle.usb_types.specs.declared.types.ErrorCode.{ErrorCode}
 use Rattle.usb_types.specs.declared.types.ErrorCode.the-variants.{GarbledConfiguration}
 use Rattle.usb_types.specs.declared.descriptors.DescriptorKind.{DescriptorKind}
 use Rattle.usb_types.specs.declared.descriptors.DescriptorKind.the-variants.{Interface, Endpoint, Other}
-use Rattle.usb_device.specs.Access.{write}
 use Rattle.usb_device.proofs.Writes.{length-write}
-use Rattle.usb_model.specs.Programs.{if_then_else_, Ran, done, fail, halt, on, Program, _>>=_, _>>_, return, skip, throw, look, change, when}
-use Rattle.usb_model.specs.Walk.{Walk, begin, alternate, interfaceAt, endpointAt, InterfaceLength, EndpointLength, interfaceDescriptor, endpointDescriptor, whole, descriptorOf, descriptor, walkFrom, walkAll, walked, walk}
+use Rattle.usb_model.specs.Programs.{Ran, done, fail, halt, on, Program, _>>=_, _>>_, return, skip, throw, when}
+use Rattle.usb_model.specs.Walk.{Walk, begin, storeInterface, alternate, storeEndpoint, interfaceAt, endpointAt, InterfaceLength, EndpointLength, interfaceDescriptor, endpointDescriptor, whole, descriptorOf, descriptor, walkFrom, walkAll, walked, walk}
 use Rattle.usb_model.specs.Kept.{Bytes}
+use Rattle.usb_model.proofs.Keeps.{Any, Keeps, left, left-holds, bind, next, gives, skips, throws, peeks, changes, either, whens}
 use Rattle.usb_model.proofs.Bytes.{bytes-take, bytes-drop, bytes-write}
 
 -- ---- the record
 
-module _ (size : ℕ) where
-  record Holds (k : Walk) : Type 0 where
-    long : length (k .kept) ≡ size
-    bytes : Bytes (k .kept)
+-- what the three changes of the walk's state keep, where D holds of the descriptors that are left
+record Copies (D : List ℕ → Type 0) (P : Walk → Type 0) : Type 0 where
+  rest : (n : ℕ) (d : List ℕ) → D d → D (drop n d)
+  other : (k : Walk) → P k → P (alternate k)
+  interface : (number : ℕ) (d : List ℕ) (k : Walk) → D d → P k → P (storeInterface number d k)
+  endpoint : (d : List ℕ) (k : Walk) → D d → P k → P (storeEndpoint d k)
 
-  abbrev Left : {A : Type 0} → Ran Walk A → Type 0
-  Left (done a k) = Holds k
-  Left (fail e k) = Holds k
-  Left (halt h k) = Holds k
+module _ {D : List ℕ → Type 0} {P : Walk → Type 0} (c : Copies D P) where
+  interface-keeps : (d : List ℕ) → D d → Keeps P (interfaceDescriptor d) Any
+  unfolding interfaceDescriptor
+  interface-keeps d h = bind (peeks _) λ last _. either (eqb (getD d 2 0) last)
+      (changes alternate (c .other))
+      (next (whens _ (throws _)) (changes _ (λ k p. c .interface (getD d 2 0) d k h p)))
 
-  record Keeps {A : Type 0} (m : Program Walk A) : Type 0 where
-    run : (k : Walk) → Holds k → Left (m k)
+  endpoint-keeps : (d : List ℕ) → D d → Keeps P (endpointDescriptor d) Any
+  unfolding endpointDescriptor
+  endpoint-keeps d h = bind (peeks _) λ now _. whens _ (next (whens _ (throws _)) (next (whens _ (throws _)) (changes _ (λ k p. c .endpoint d k h p))))
 
-  left-on : {A B : Type 0} {f : A → Program Walk B} (r : Ran Walk A) → Left r → ((a : A) → Keeps (f a)) → Left (on r f)
-  left-on (done a k) h f = f a .run k h
-  left-on (fail e k) h f = h
-  left-on (halt x k) h f = h
+  kind-keeps : (kind : DescriptorKind) (d : List ℕ) → D d → Keeps P (descriptorOf kind d) Any
+  unfolding descriptorOf whole
+  kind-keeps Interface d h = next (whens _ (throws _)) (next (interface-keeps d h) (gives true tt))
+  kind-keeps Endpoint d h = next (whens _ (throws _)) (next (endpoint-keeps d h) (gives true tt))
+  kind-keeps Other d h = gives _ tt
 
-  bind : {A B : Type 0} {m : Program Walk A} {f : A → Program Walk B} → Keeps m → ((a : A) → Keeps (f a)) → Keeps (m >>= f)
-  unfolding _>>=_
-  bind {m} h f = record { run = λ k i. left-on (m k) (h .run k i) f }
+  from-keeps : (n : ℕ) (d : List ℕ) → D d → Keeps P (walkFrom n d) Any
+  unfolding walkFrom descriptor
+  from-keeps zero d h = skips
+  from-keeps (suc n) [] h = skips
+  from-keeps (suc n) (x ∷ d) h = bind (next (whens _ (throws _)) (kind-keeps _ (x ∷ d) h)) λ goes _. whens goes (from-keeps n (drop x (x ∷ d)) (c .rest x (x ∷ d) h))
 
-  next : {A B : Type 0} {m : Program Walk A} {f : Program Walk B} → Keeps m → Keeps f → Keeps (m >> f)
-  unfolding _>>_
-  next {m} h f = record { run = λ k i. left-on (m k) (h .run k i) (λ _. f) }
+  all-keeps : (d : List ℕ) → D d → Keeps P (walkAll d) Any
+  unfolding walkAll
+  all-keeps [] h = throws _
+  all-keeps (x ∷ d) h = from-keeps (length d + 1) (drop x (x ∷ d)) (c .rest x (x ∷ d) h)
 
-  gives : {A : Type 0} (a : A) → Keeps (return a)
-  unfolding return
-  gives a = record { run = λ k i. i }
+  walk-keeps : (d kept : List ℕ) → D d → P (begin kept) → P (left (walkAll d (begin kept)))
+  walk-keeps d kept h p = left-holds (all-keeps d h .run (begin kept) p)
 
-  looks : {A : Type 0} (f : Walk → A) → Keeps (look f)
-  unfolding look
-  looks f = record { run = λ k i. i }
+walked-kept : (r : Ran Walk (Unit {0})) → walked r .kept ≡ left r .kept
+walked-kept (done a k) = refl
+walked-kept (fail e k) = refl
+walked-kept (halt h k) = refl
 
-  changes : (f : Walk → Walk) → ((k : Walk) → Holds k → Holds (f k)) → Keeps (change f)
-  unfolding change
-  changes f h = record { run = h }
-
-  either : {A : Type 0} (b : Bool) {m f : Program Walk A} → Keeps m → Keeps f → Keeps (if b then m else f)
-  either true h f = h
-  either false h f = f
-
-  whens : (b : Bool) {m : Program Walk (Unit {0})} → Keeps m → Keeps (when b m)
-  unfolding when skip
-  whens b h = either b h (record { run = λ k i. i })
-
-  refuses : (b : Bool) (e : ErrorCode) → Keeps (when b (throw e))
-  unfolding throw
-  refuses b e = whens b (record { run = λ k i. i })
-
-  -- a copy into the record
-  copied : {k : Walk} (at : ℕ) (vs : List ℕ) → Bytes vs → Holds k → (length (write (k .kept) at vs) ≡ size) × Bytes (write (k .kept) at vs)
-  copied {k} at vs b i = (length-write (k .kept) at vs ∙ i .long, bytes-write (k .kept) at vs (i .bytes) b)
-
-  module _ (d : List ℕ) (b : Bytes d) where
-    keeps-interface : Keeps (interfaceDescriptor d)
-    unfolding interfaceDescriptor
-    keeps-interface = bind (looks _) λ last. either (eqb (getD d 2 0) last)
-        (changes alternate (λ k i. record { long = i .long; bytes = i .bytes }))
-        (next (refuses _ _) (changes _ (λ k i. let c = copied (interfaceAt (getD d 2 0)) (take InterfaceLength d) (bytes-take InterfaceLength d b) i in record { long = c .0; bytes = c .1 })))
-
-    keeps-endpoint : Keeps (endpointDescriptor d)
-    unfolding endpointDescriptor
-    keeps-endpoint = bind (looks _) λ now. whens _ (next (refuses _ _) (next (refuses _ _)
-        (changes _ (λ k i. let c = copied (endpointAt (k .lastInterface) (k .lastEndpoint)) (take EndpointLength d) (bytes-take EndpointLength d b) i in record { long = c .0; bytes = c .1 }))))
-
-    keeps-kind : (kind : DescriptorKind) → Keeps (descriptorOf kind d)
-    unfolding descriptorOf whole
-    keeps-kind Interface = next (refuses _ _) (next keeps-interface (gives true))
-    keeps-kind Endpoint = next (refuses _ _) (next keeps-endpoint (gives true))
-    keeps-kind Other = gives _
-
-    keeps-descriptor : Keeps (descriptor d)
-    unfolding descriptor
-    keeps-descriptor = next (refuses _ _) (keeps-kind _)
-
-  keeps-from : (n : ℕ) (d : List ℕ) → Bytes d → Keeps (walkFrom n d)
-  unfolding walkFrom skip
-  keeps-from zero d b = record { run = λ k i. i }
-  keeps-from (suc n) [] b = record { run = λ k i. i }
-  keeps-from (suc n) (x ∷ d) b = bind (keeps-descriptor (x ∷ d) b) λ goes. whens goes (keeps-from n (drop x (x ∷ d)) (bytes-drop x (x ∷ d) b))
-
-  keeps-all : (d : List ℕ) → Bytes d → Keeps (walkAll d)
-  unfolding walkAll throw
-  keeps-all [] b = record { run = λ k i. i }
-  keeps-all (x ∷ d) b = keeps-from (length d + 1) (drop x (x ∷ d)) (bytes-drop x (x ∷ d) b)
-
-left-record : (size : ℕ) (r : Ran Walk (Unit {0})) → Left size r → (length (walked r .kept) ≡ size) × Bytes (walked r .kept)
-left-record size (done a k) h = (h .long, h .bytes)
-left-record size (fail e k) h = (h .long, h .bytes)
-left-record size (halt x k) h = (h .long, h .bytes)
-
-pub walk-record : (d kept : List ℕ) → Bytes d → Bytes kept → (length (walk d kept .kept) ≡ length kept) × Bytes (walk d kept .kept)
+-- the record keeps its length
+pub walk-long : (d kept : List ℕ) → length (walk d kept .kept) ≡ length kept
 unfolding walk
-walk-record d kept b c = left-record (length kept) (walkAll d (begin kept)) (keeps-all (length kept) d b .run (begin kept) (record { long = refl; bytes = c }))
+walk-long d kept = ap length (walked-kept (walkAll d (begin kept))) ∙ walk-keeps long d kept tt refl
+  where
+    long : Copies (λ _. Unit {0}) (λ k. length (k .kept) ≡ length kept)
+    long = record {
+      rest = λ n d h. tt;
+      other = λ k e. e;
+      interface = λ number d k h e. length-write (k .kept) (interfaceAt number) (take InterfaceLength d) ∙ e;
+      endpoint = λ d k h e. length-write (k .kept) (endpointAt (k .lastInterface) (k .lastEndpoint)) (take EndpointLength d) ∙ e;
+    }
+
+-- and stays a list of bytes
+pub walk-bytes : (d kept : List ℕ) → Bytes d → Bytes kept → Bytes (walk d kept .kept)
+unfolding walk
+walk-bytes d kept b c = subst Bytes (sym (walked-kept (walkAll d (begin kept)))) (walk-keeps bytes d kept b c)
+  where
+    bytes : Copies Bytes (λ k. Bytes (k .kept))
+    bytes = record {
+      rest = bytes-drop;
+      other = λ k p. p;
+      interface = λ number d k h p. bytes-write (k .kept) (interfaceAt number) (take InterfaceLength d) p (bytes-take InterfaceLength d h);
+      endpoint = λ d k h p. bytes-write (k .kept) (endpointAt (k .lastInterface) (k .lastEndpoint)) (take EndpointLength d) p (bytes-take EndpointLength d h);
+    }
 
 -- ---- fuel
 

@@ -88,7 +88,7 @@ key-apart p f n q r k = go k (decLt p q) (decLt q p)
     go most (no l) (no m) = ⊎-elim (λ a. inl (omega arith)) (λ a. inr (omega arith)) (r .apart)
 
 -- a store with the same places used, or more, has its first unused place no earlier
-first-kept : (s t : List ℕ) → ((q : ℕ) → byteAt s q Used ≢ 0 → byteAt t q Used ≢ 0) → firstUnused s ≤ firstUnused t
+pub first-kept : (s t : List ℕ) → ((q : ℕ) → byteAt s q Used ≢ 0 → byteAt t q Used ≢ 0) → firstUnused s ≤ firstUnused t
 first-kept s t h = first-least t (firstUnused s) (first-most s) (λ q l. h q (first-before s q l))
 
 above-kept : {s t : List ℕ} (h q : ℕ) → byteAt t h (Child q) ≡ byteAt s h (Child q) → firstUnused s ≤ firstUnused t → Above s h q → Above t h q
@@ -99,7 +99,7 @@ new-most : (p : ℕ) → getD (newDevice p) MaxChildren 0 ≡ 0
 unfolding newDevice
 new-most p = refl
 
-new-child : (p q : ℕ) → q < 10 → getD (newDevice p) (Child q) 0 ≡ 0
+pub new-child : (p q : ℕ) → q < 10 → getD (newDevice p) (Child q) 0 ≡ 0
 unfolding newDevice
 new-child p q h = sym (ten-at (λ k. getD (newDevice p) (Child k) 0) q h) ∙ getD-replicate 10 q 0 0 h
 
@@ -203,7 +203,7 @@ module _ {w : World} (g : Good w) where
     abbrev pub with-new : List ℕ
     with-new = withBytes (w .store) p 0 (newDevice p)
 
-    elsewhere : (q k : ℕ) → q ≢ p → k < 1152 → byteAt with-new q k ≡ byteAt (w .store) q k
+    pub elsewhere : (q k : ℕ) → q ≢ p → k < 1152 → byteAt with-new q k ≡ byteAt (w .store) q k
     elsewhere q k n l = byte-other (w .store) p 0 (newDevice p) q k (go (decLt p q))
       where
         go : Dec (p < q) → Apart p 0 (length (newDevice p)) q k 1

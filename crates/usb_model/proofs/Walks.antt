@@ -12,6 +12,7 @@ use Rattle.usb_device.specs.Device.{firstUnused}
 use Rattle.usb_model.specs.Programs.{if_then_else_, Ran, done, fail, halt, on, _>>=_, _>>_, return, skip, throw, stop, look, change, ran, succeed, caught, attempt, ignore, when, each}
 use Rattle.usb_model.specs.World.{World, M}
 use Rattle.usb_model.specs.Kept.{Good, Onward}
+use Rattle.usb_model.proofs.Keeps.{Any}
 use Rattle.usb_model.proofs.Onward.{onward-same, onward-join}
 
 pub data Went {A : Type 0} (Q : A → Type 0) (w : World) : Ran World A → Type 0 where
@@ -21,9 +22,6 @@ pub data Went {A : Type 0} (Q : A → Type 0) (w : World) : Ran World A → Type
 
 pub record Walks (n : ℕ) {A : Type 0} (m : M A) (Q : A → Type 0) : Type 0 where
   pub run : (w : World) → Good w → n ≤ firstUnused (w .store) → Went Q w (m w)
-
-abbrev pub Any : {A : Type 0} → A → Type 0
-Any a = Unit {0}
 
 -- a program of which only that it walks is told
 abbrev pub Goes : ℕ → {A : Type 0} → M A → Type 0

@@ -7,7 +7,7 @@ use lib.ListN.{length, take, drop, set, replicate}
 use Rattle.usb_types.specs.Numbers.{minus, littleEndian}
 use Rattle.usb_device.specs.Layout.{Parent, Hub, Child, MaxChildren}
 use Rattle.usb_device.specs.Device.{newDevice, repeat}
-use Rattle.usb_model.specs.Entry.{Lent, Left, rootAttach, scan, portCheck, childReset, childCheck, retriedReset, connectionChange, WalkLeft, configurationWalk}
+use Rattle.usb_model.specs.Entry.{Lent, Left, rootAttach, scan, portCheck, childReset, childCheck, retriedReset, connectionChange, configurationWalk}
 
 -- of a call: the answer, the requests logged, and bytes that it left
 pub record Row : Type 0 where

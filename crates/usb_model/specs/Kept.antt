@@ -70,8 +70,8 @@ pub record LentBytes (lent : Lent) : Type 0 where
   pub outcomes : Bytes (lent .outcomes)
   pub log : Bytes (lent .log)
 
--- of a call, refused or not: an answer of the table; bytes of the same lengths; whole actions from the start of the log on, and the bytes after them as they
--- were; and as many requests reported as the log has actions of kind 1
+-- of a call, refused or not: an answer of the table; bytes of the same lengths; whole actions from the start of the log on, and the
+-- bytes after them as they were; and as many requests reported as the log has actions of kind 1
 pub record Accounts (lent : Lent) (left : Left) : Type 0 where
   pub answer : Listed (left .answer)
   pub new-length : length (left .new) ≡ length (lent .new)

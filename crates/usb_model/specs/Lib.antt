@@ -8,4 +8,8 @@ pub mod Hub
 pub mod Attach
 pub mod Entry
 pub mod Kept
+pub mod History
 pub mod Bench
+pub mod Repeat
+pub mod Count
+pub mod Demand3
