@@ -10,23 +10,21 @@ use lib.ListN.{getD, replicate}
 use Rattle.usb_device.specs.Layout.{StoreLength, Status, Hub}
 use Rattle.usb_device.specs.Access.{byteAt, offset}
 use Rattle.usb_device.specs.Device.{firstUnused}
-use Rattle.usb_device.proofs.Free.{free-most}
 use Rattle.usb_sound.specs.Sound.{Sound}
 use Rattle.usb_sound.proofs.Decides.{empty-sound}
 use Rattle.usb_model.specs.Programs.{Ran}
 use Rattle.usb_model.specs.World.{World}
 use Rattle.usb_model.specs.Attach.{attachNew}
 use Rattle.usb_model.specs.Entry.{Lent, accepted, noPort, start, answered, call, rootAttach, scan, portCheck}
-use Rattle.usb_model.specs.Kept.{Onward, LentBytes}
+use Rattle.usb_model.specs.Kept.{LentBytes}
 use Rattle.usb_model.specs.History.{Event, Reading, readLog, joined, configures, count}
 use Rattle.usb_model.specs.Demand3.{Call, attaches, scans, checks, verdict, program, entry, Ended, finished, failed, Reached, empty, refusal, ran, ShownConfigured, Stands, Demand3}
-use Rattle.usb_model.proofs.Walks.{Went, went}
-use Rattle.usb_model.proofs.Walks as Walks
+use Rattle.usb_model.proofs.Walks.{Reach, reach-here}
 use Rattle.usb_model.proofs.Cycle.{attach-walks, check-connection, root-hub, check-for-change}
 use Rattle.usb_model.proofs.Accepted.{root-accepted, hub-accepted}
 use Rattle.usb_model.proofs.Entries.{start-good}
 use Rattle.usb_model.proofs.Bound.{root-attach-requests}
-use Rattle.usb_model.proofs.Keeps.{Any, left}
+use Rattle.usb_model.proofs.Keeps.{Any, Left, left, left-holds}
 use Rattle.usb_model.proofs.SoundKept.{Stays, hub-place, check-connection-stays, check-for-change-stays, root-hub-stays}
 use Rattle.usb_model.proofs.Reading.{Reads}
 use Rattle.usb_model.proofs.Triples.{State, store, Leads, fine, bad}
@@ -85,10 +83,6 @@ leads-ended : {h : List Event} {H : ℕ → Type 0} {r : Ran World (Unit {0})} {
 leads-ended (fine s f) finished = record { state = s; is = refl; is-fine = f }
 leads-ended (bad s f) failed = record { state = s; is = refl; is-fine = f }
 
-went-ended : {u w : World} {r : Ran World (Unit {0})} → Went Any u r → Ended r w → Onward u w
-went-ended (went o g q) finished = o
-went-ended (Walks.failed o g) failed = o
-
 left-ended : {r : Ran World (Unit {0})} {w : World} → Ended r w → left r ≡ w
 left-ended finished = refl
 left-ended failed = refl
@@ -103,10 +97,10 @@ joined-is {h} {H} {w} outcomes e o n l =
 
 module _ (lent : Lent) (bytes : LentBytes lent) {h : List Event} (k : Kept (lent .old) h) {w : World} (c : Call) (ends : Ended (program c (start lent)) w) where
   -- a run that is claimed, walks and stays sound
-  kept-ran : {H : ℕ → Type 0} → Leads {h₀ = h} (λ _. Fine H) (Fine H) (program c (start lent)) → Went Any (start lent) (program c (start lent)) → Stays (program c) (start lent) → (n : ℕ) → w .at .logged ≡ 16 * n → Kept (w .store) (joined n (w .log) (lent .outcomes) h)
-  kept-ran {H} x y z n l =
+  kept-ran : {H : ℕ → Type 0} {m : ℕ} → Leads {h₀ = h} (λ _. Fine H) (Fine H) (program c (start lent)) → Left (Reach (start lent) m) Any (program c (start lent)) → Stays (program c) (start lent) → (n : ℕ) → w .at .logged ≡ 16 * n → Kept (w .store) (joined n (w .log) (lent .outcomes) h)
+  kept-ran {H} {m} x y z n l =
       let e = leads-ended x ends in
-      let o = went-ended y ends in
+      let o = subst (Reach (start lent) m) (left-ended ends) (left-holds y) .onward in
       let i = e .is-fine .inv in
       let past : e .state .past ≡ joined n (w .log) (lent .outcomes) h = sym (joined-is (lent .outcomes) e (o .outcomes) n l) in
       let same : store (e .state) ≡ w .store = ap (λ (v : World). v .store) (e .is) in
@@ -136,14 +130,14 @@ kept-call lent bytes {h} k (attaches speed) v e n l =
     let s = first-state lent bytes (x .is-sound) h in
     kept-ran lent bytes k (attaches speed) e
     (root-does speed (omega (arith, x .low)) .run s (record { inv = record { place = λ p m _. k .place p m; belongs = λ a _ m. k .belongs a m }; unused = x .unused }))
-    (root-hub speed (omega (arith, x .low)) .run (start lent) (s .good) (omega arith) (omega (arith, free-most (lent .old))) .walk)
+    (root-hub (start lent) speed (omega (arith, x .low)) .run (start lent) (reach-here (start lent) (s .good) (omega arith)) .walk)
     (root-hub-stays (start lent) (x .is-sound) (x .unused) speed (x .low)) n l
 kept-call lent bytes {h} k (scans hub) v e n l =
     let x = hub-accepted lent hub false v in
     let s = first-state lent bytes (x .is-sound) h in
     kept-ran lent bytes k (scans hub) e
     (scan-does 32 32 hub (λ q. q ≡ hub) refl (x .inside) .run s (hub-fine lent bytes (x .is-sound) k hub (x .is-hub) (x .first)))
-    (check-for-change 32 32 32 hub .run (start lent) (s .good) (x .first) (omega (arith, free-most (lent .old))) .walk)
+    (check-for-change 32 (start lent) 32 hub .run (start lent) (reach-here (start lent) (s .good) (x .first)) .walk)
     (check-for-change-stays (start lent) (x .is-sound) (hub-place (x .is-sound) (x .inside) (x .is-hub)) 32 32) n l
 kept-call lent bytes {h} k (checks hub port) v e n l =
     let x = hub-accepted lent hub (noPort port) v in
@@ -151,7 +145,7 @@ kept-call lent bytes {h} k (checks hub port) v e n l =
     let low : port < 10 = omega (arith, ltb-false 9 port (x .good)) in
     kept-ran lent bytes k (checks hub port) e
     (check-does (λ q. q ≡ hub) hub port refl (x .inside) low attachNew (attach-below-does 32) .run s (hub-fine lent bytes (x .is-sound) k hub (x .is-hub) (x .first)))
-    (check-connection attachNew attachNew (attach-walks 32 32) hub port (omega arith) low .run (start lent) (s .good) (x .first) (omega (arith, free-most (lent .old))) .walk)
+    (check-connection attachNew attachNew (λ v _. attach-walks 32 v) hub port (omega arith) low .run (start lent) (reach-here (start lent) (s .good) (x .first)) .walk)
     (check-connection-stays (start lent) (x .is-sound) (hub-place (x .is-sound) (x .inside) (x .is-hub)) 32 port low) n l
 
 kept : {s : List ℕ} {h : List Event} → Reached s h → Kept s h

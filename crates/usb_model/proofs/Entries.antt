@@ -23,7 +23,6 @@ use Rattle.usb_types.specs.declared.types.Refusal.the-variants.{BadArgument, St
 use Rattle.usb_device.specs.Layout.{StoreLength, Child, MaxChildren}
 use Rattle.usb_device.specs.Access.{byteAt}
 use Rattle.usb_device.proofs.Writes.{write-nil}
-use Rattle.usb_device.proofs.Free.{free-most}
 use Rattle.usb_sound.specs.Sound.{Sound}
 use Rattle.usb_sound.proofs.Hubs.{child-below}
 use Rattle.usb_model.specs.Programs.{Ran}
@@ -33,8 +32,8 @@ use Rattle.usb_model.specs.Attach.{attachNew, usbAttachRootHub}
 use Rattle.usb_model.specs.Entry.{Lent, Verdict, accepted, refused, isUnused, noPort, rootVerdict, hubVerdict, start, leaves, answered, call, rootAttach, scan, portCheck, childReset, childCheck, retriedReset, connectionChange, configurationWalk}
 use Rattle.usb_model.specs.Kept.{Bytes, requestsIn, Above, Good, Onward, Listed, LentBytes, Accounts, WalkAccounts}
 use Rattle.usb_model.proofs.Accepted.{used-below, root-accepted, hub-accepted}
-use Rattle.usb_model.proofs.Keeps.{Any}
-use Rattle.usb_model.proofs.Walks.{Went, went, failed, halted}
+use Rattle.usb_model.proofs.Keeps.{Any, Left, is-done, is-failed, is-halted}
+use Rattle.usb_model.proofs.Walks.{Reach, reach-here}
 use Rattle.usb_model.proofs.Record.{walk-long, walk-bytes}
 use Rattle.usb_model.proofs.Functions.{child-reset, reset}
 use Rattle.usb_model.proofs.Pairs.{Alike, one}
@@ -120,13 +119,13 @@ module _ (lent : Lent) (bytes : LentBytes lent) where
     requests = omega (arith, o .requests);
   }
 
-  answered-of : {r : Ran World (Unit {0})} → length (lent .new) ≡ length (lent .old) → Went Any (start lent) r → Accounts lent (answered r)
-  answered-of e (went o g q) = leaves-of (listed 0 (omega arith)) e o g
-  answered-of s (failed {e} o g) = leaves-of (error-listed e) s o g
-  answered-of s (halted {h} o g) = leaves-of (halt-listed h) s o g
+  answered-of : {n : ℕ} {r : Ran World (Unit {0})} → length (lent .new) ≡ length (lent .old) → Left (Reach (start lent) n) Any r → Accounts lent (answered r)
+  answered-of e (is-done x q) = leaves-of (listed 0 (omega arith)) e (x .onward) (x .good)
+  answered-of l (is-failed {e} x) = leaves-of (error-listed e) l (x .onward) (x .good)
+  answered-of l (is-halted {h} x) = leaves-of (halt-listed h) l (x .onward) (x .good)
 
   -- a call that is refused, or runs
-  called : (v : Verdict) (m : M (Unit {0})) → (v ≡ accepted → (length (lent .new) ≡ length (lent .old)) × Went Any (start lent) (m (start lent))) → Accounts lent (call lent v m)
+  called : {n : ℕ} (v : Verdict) (m : M (Unit {0})) → (v ≡ accepted → (length (lent .new) ≡ length (lent .old)) × Left (Reach (start lent) n) Any (m (start lent))) → Accounts lent (call lent v m)
   unfolding call requestsIn
   called accepted m h = answered-of (h refl .0) (h refl .1)
   called (refused r) m h = record {
@@ -145,32 +144,32 @@ module _ (lent : Lent) (bytes : LentBytes lent) where
 
 module _ (lent : Lent) (bytes : LentBytes lent) where
   -- an entry that names a hub: its program walks where the hub is known, and the other arguments are good
-  of-hub : (hub : ℕ) (bad : Bool) (m : M (Unit {0})) → (bad ≡ false → Alike (hub + 1) 33 m m) → Accounts lent (call lent (hubVerdict lent hub bad) m)
+  of-hub : (hub : ℕ) (bad : Bool) (m : M (Unit {0})) → (bad ≡ false → Alike (start lent) (hub + 1) m m) → Accounts lent (call lent (hubVerdict lent hub bad) m)
   of-hub hub bad m h = called lent bytes _ m (λ e.
       let x = hub-accepted lent hub bad e in
-      (x .lengths, h (x .good) .run (start lent) (start-good lent bytes (x .is-sound)) (x .first) (omega (arith, free-most (lent .old))) .walk))
+      (x .lengths, h (x .good) .run (start lent) (reach-here (start lent) (start-good lent bytes (x .is-sound)) (x .first)) .walk))
 
   pub root-attach-accounts : (speed : ℕ) → Accounts lent (rootAttach speed lent)
   unfolding rootAttach
   root-attach-accounts speed = called lent bytes (rootVerdict lent speed) (usbAttachRootHub speed) (λ e.
       let x = root-accepted lent speed e in
-      (x .lengths, root-hub speed (omega (arith, x .low)) .run (start lent) (start-good lent bytes (x .is-sound)) (omega arith) (omega (arith, free-most (lent .old))) .walk))
+      (x .lengths, root-hub (start lent) speed (omega (arith, x .low)) .run (start lent) (reach-here (start lent) (start-good lent bytes (x .is-sound)) (omega arith)) .walk))
 
   pub scan-accounts : (hub : ℕ) → Accounts lent (scan hub lent)
   unfolding scan
-  scan-accounts hub = of-hub hub false _ (λ _. check-for-change 32 32 32 hub)
+  scan-accounts hub = of-hub hub false _ (λ _. check-for-change 32 (start lent) 32 hub)
 
   pub port-check-accounts : (hub port : ℕ) → Accounts lent (portCheck hub port lent)
   unfolding portCheck
-  port-check-accounts hub port = of-hub hub (noPort port) _ (λ e. check-connection attachNew attachNew (attach-walks 32 32) hub port (omega arith) (omega (arith, ltb-false 9 port e)))
+  port-check-accounts hub port = of-hub hub (noPort port) _ (λ e. check-connection attachNew attachNew (λ v _. attach-walks 32 v) hub port (omega arith) (omega (arith, ltb-false 9 port e)))
 
   pub connection-change-accounts : (hub port : ℕ) → Accounts lent (connectionChange hub port lent)
   unfolding connectionChange
-  connection-change-accounts hub port = of-hub hub (noPort port) _ (λ e. connection-changed attachNew attachNew (attach-walks 32 32) hub port (omega arith) (omega (arith, ltb-false 9 port e)))
+  connection-change-accounts hub port = of-hub hub (noPort port) _ (λ e. connection-changed attachNew attachNew (λ v _. attach-walks 32 v) hub port (omega arith) (omega (arith, ltb-false 9 port e)))
 
   pub child-check-accounts : (hub child : ℕ) → Accounts lent (childCheck hub child lent)
   unfolding childCheck
-  child-check-accounts hub child = of-hub hub (isUnused lent child) _ (λ _. check-device attachNew attachNew (attach-walks 32 32) hub child (omega arith))
+  child-check-accounts hub child = of-hub hub (isUnused lent child) _ (λ _. check-device attachNew attachNew (λ v _. attach-walks 32 v) hub child (omega arith))
 
   pub child-reset-accounts : (hub child : ℕ) → Accounts lent (childReset hub child lent)
   unfolding childReset

@@ -8,6 +8,7 @@ use borrow.Author.Tests.{ltb-true, not-false}
 use lib.Dec.{eqb, ltb}
 use Rattle.usb_types.specs.Requests.{ToDevice, ToHub, ToPort, GetStatus, SetFeature, ClearFeature, GetDescriptor, SetAddress, SetConfiguration, GetConfiguration, GetInterface, SynchFrame, directionOf, deviceRequest}
 use Rattle.usb_device.specs.Layout.{Number, Speed, Status, ConfigurationIndex, PortNumber, Parent, Hub, DeviceDescriptor, MaxPacketSize0, ConfigurationDescriptor, Interfaces, HubDescriptor, HubStatus, PortStatus, Child}
+use Rattle.usb_model.specs.World.{World}
 use Rattle.usb_model.specs.Features.{PORT-ENABLE, PORT-LOW-SPEED, PORT-HIGH-SPEED, C-PORT-RESET, bit}
 use Rattle.usb_model.specs.Transfer.{Buffer, into, nowhere, usbGetDescriptor}
 use Rattle.usb_model.specs.Walk.{RecordLength}
@@ -17,7 +18,8 @@ use Rattle.usb_model.specs.Kept.{Bytes}
 use Rattle.usb_model.proofs.Bytes.{bytes-blank}
 use Rattle.usb_model.proofs.Stores.{Plain}
 use Rattle.usb_model.proofs.Record.{walk-long, walk-bytes}
-use Rattle.usb_model.proofs.Walks.{Walks, Goes, bind, next, gives, skips, throws, succeeds, ignores, either, whens, unless, eachs}
+use Rattle.usb_model.proofs.Keeps.{bind, next, gives, skips, throws, succeeds, ignores, either, whens, unless, eachs}
+use Rattle.usb_model.proofs.Walks.{Walks, Goes}
 use Rattle.usb_model.proofs.Primitives.{gets, gets-most, gets-number, gets-bytes, puts, puts-bytes, waits, Byte-codes, Fits, room-none, plain, messages, controls, reads}
 
 -- the middle one of three tests
@@ -49,18 +51,18 @@ low field room h l = plain (record { past = h; room = omega arith; apart = inl l
 pub small : (f : ℕ) → 0 < f → f < 96 → Plain f 1
 small f h l = record { past = h; room = omega arith; apart = inl (omega arith) }
 
-module _ {n : ℕ} where
-  descriptors : (p recipient type index size minimum : ℕ) {b : Buffer} → recipient < 128 → Fits b → Walks n (usbGetDescriptor p recipient type index size minimum b) Bytes
+module _ {u : World} {n : ℕ} where
+  descriptors : (p recipient type index size minimum : ℕ) {b : Buffer} → recipient < 128 → Fits b → Walks u n (usbGetDescriptor p recipient type index size minimum b) Bytes
   unfolding usbGetDescriptor
   descriptors p recipient type index size minimum {b} r f = reads p _ b (codes recipient GetDescriptor (type * 256 + index) 0 size r (omega arith)) f minimum
 
   -- ---- usbd.rs
 
-  pub device-descriptor : (p minimum : ℕ) → Goes n (readDeviceDescriptor p minimum)
+  pub device-descriptor : (p minimum : ℕ) → Goes u n (readDeviceDescriptor p minimum)
   unfolding readDeviceDescriptor
   device-descriptor p minimum = bind (descriptors p ToDevice 1 0 18 minimum (omega arith) (low DeviceDescriptor 18 (omega arith) (omega arith))) λ bytes _. gives _ tt
 
-  pub read-device-descriptor : (p : ℕ) → Goes n (usbReadDeviceDescriptor p)
+  pub read-device-descriptor : (p : ℕ) → Goes u n (usbReadDeviceDescriptor p)
   unfolding usbReadDeviceDescriptor
   read-device-descriptor p =
       bind (gets p Speed) λ speed _.
@@ -73,7 +75,7 @@ module _ {n : ℕ} where
       size true = omega arith
       size false = omega arith
 
-  pub set-address : (p address : ℕ) → address < 256 → Goes n (usbSetAddress p address)
+  pub set-address : (p address : ℕ) → address < 256 → Goes u n (usbSetAddress p address)
   unfolding usbSetAddress
   set-address p address h =
       bind (gets p Status) λ status _.
@@ -83,7 +85,7 @@ module _ {n : ℕ} where
       next (puts p Number address (small Number (omega arith) (omega arith)) h)
       (puts p Status _ (small Status (omega arith) (omega arith)) (omega arith)))))
 
-  pub set-configure : (p value : ℕ) → value < 256 → Goes n (usbSetConfigure p value)
+  pub set-configure : (p value : ℕ) → value < 256 → Goes u n (usbSetConfigure p value)
   unfolding usbSetConfigure
   set-configure p value h =
       bind (gets p Status) λ status _.
@@ -92,7 +94,7 @@ module _ {n : ℕ} where
       next (puts p ConfigurationIndex value (small ConfigurationIndex (omega arith) (omega arith)) h)
       (puts p Status _ (small Status (omega arith) (omega arith)) (omega arith))))
 
-  pub configures : (p index : ℕ) → index < 256 → Goes n (usbConfigure p index)
+  pub configures : (p index : ℕ) → index < 256 → Goes u n (usbConfigure p index)
   unfolding usbConfigure
   configures p index h =
       bind (gets p Status) λ status _.
@@ -108,7 +110,7 @@ module _ {n : ℕ} where
 
   -- ---- device/hub.rs
 
-  pub read-hub-descriptor : (p : ℕ) → Goes n (hubReadDescriptor p)
+  pub read-hub-descriptor : (p : ℕ) → Goes u n (hubReadDescriptor p)
   unfolding hubReadDescriptor
   read-hub-descriptor p =
       bind (descriptors p ToHub 41 0 2 2 (omega arith) none) λ header b.
@@ -117,11 +119,11 @@ module _ {n : ℕ} where
       (puts-bytes p HubDescriptor 9 _ (record { past = omega arith; room = omega arith; apart = inl (omega arith) }) (omega arith) (bytes-blank 9)))) (
       next (descriptors p ToHub 41 0 _ _ (omega arith) (low HubDescriptor 9 (omega arith) (omega arith))) skips)
 
-  pub get-status : (p : ℕ) → Goes n (hubGetStatus p)
+  pub get-status : (p : ℕ) → Goes u n (hubGetStatus p)
   unfolding hubGetStatus
   get-status p = next (reads p _ _ (codes ToHub GetStatus 0 0 4 (omega arith) (omega arith)) (low HubStatus _ (omega arith) (omega arith)) _) skips
 
-  pub change-feature : (p feature port : ℕ) (set : Bool) → Goes n (hubChangePortFeature p feature port set)
+  pub change-feature : (p feature port : ℕ) (set : Bool) → Goes u n (hubChangePortFeature p feature port set)
   unfolding hubChangePortFeature
   change-feature p feature port set = next (controls p _ nowhere (codes ToPort _ feature (port + 1) 0 (omega arith) (code set)) none) skips
     where
@@ -129,43 +131,43 @@ module _ {n : ℕ} where
       code true = omega arith
       code false = omega arith
 
-  pub power-on : (p : ℕ) → Goes n (hubPowerOn p)
+  pub power-on : (p : ℕ) → Goes u n (hubPowerOn p)
   unfolding hubPowerOn
   power-on p =
       bind (gets p Hub) λ data′ _.
       whens _ (bind (gets p _) λ count _. bind (gets p _) λ delay _.
       next (eachs _ _ (λ port _. ignores (change-feature p _ port true))) (waits _))
 
-  pub port-get-status : (p port : ℕ) → port < 10 → Goes n (hubPortGetStatus p port)
+  pub port-get-status : (p port : ℕ) → port < 10 → Goes u n (hubPortGetStatus p port)
   unfolding hubPortGetStatus
   port-get-status p port h = next (reads p _ _ (codes ToPort GetStatus 0 (port + 1) 4 (omega arith) (omega arith)) (low (PortStatus port) _ (omega arith) (omega arith)) _) skips
 
-  pub port-status : (p port : ℕ) → Goes n (portStatus p port)
+  pub port-status : (p port : ℕ) → Goes u n (portStatus p port)
   unfolding portStatus
   port-status p port = gets-number p _ 4
 
-  pub await-reset : (reads p port : ℕ) → port < 10 → Goes n (awaitReset reads p port)
+  pub await-reset : (reads p port : ℕ) → port < 10 → Goes u n (awaitReset reads p port)
   unfolding awaitReset
   await-reset zero p port h = gives false tt
   await-reset (suc reads) p port h =
       next (waits _) (next (port-get-status p port h) (bind (port-status p port) λ status _.
       either (bit C-PORT-RESET status) (gives true tt) (await-reset reads p port h)))
 
-  pub reset2 : (p port : ℕ) → port < 10 → Goes n (hubPortReset2 p port)
+  pub reset2 : (p port : ℕ) → port < 10 → Goes u n (hubPortReset2 p port)
   unfolding hubPortReset2
   reset2 p port h =
       next (ignores (change-feature p _ port false)) (next (change-feature p _ port true) (
       bind (await-reset _ p port h) λ seen _.
       next (change-feature p _ port false) (next (whens _ (throws _)) (waits _))))
 
-  pub await-enabled : (reads p port : ℕ) → port < 10 → Goes n (awaitEnabled reads p port)
+  pub await-enabled : (reads p port : ℕ) → port < 10 → Goes u n (awaitEnabled reads p port)
   unfolding awaitEnabled
   await-enabled zero p port h = gives false tt
   await-enabled (suc reads) p port h =
       next (waits _) (next (port-get-status p port h) (bind (port-status p port) λ status _.
       either (bit C-PORT-RESET status || bit PORT-ENABLE status) (gives _ tt) (await-enabled reads p port h)))
 
-  pub tries : (count p port : ℕ) → port < 10 → Goes n (resetTries count p port)
+  pub tries : (count p port : ℕ) → port < 10 → Goes u n (resetTries count p port)
   unfolding resetTries
   tries zero p port h = skips
   tries (suc count) p port h =
@@ -173,11 +175,11 @@ module _ {n : ℕ} where
       bind (port-status p port) λ status _.
       next (whens _ (throws _)) (either (seen && bit PORT-ENABLE status) skips (tries count p port h)))
 
-  pub reset : (p port : ℕ) → port < 10 → Goes n (hubPortReset p port)
+  pub reset : (p port : ℕ) → port < 10 → Goes u n (hubPortReset p port)
   unfolding hubPortReset
   reset p port h = next (tries _ p port h) (next (ignores (change-feature p _ port false)) (ignores (change-feature p _ port false)))
 
-  pub port-of-child : (p child : ℕ) → Walks n (portOfChild p child) (λ port. port < 10)
+  pub port-of-child : (p child : ℕ) → Walks u n (portOfChild p child) (λ port. port < 10)
   unfolding portOfChild
   port-of-child p child =
       bind (gets child Parent) λ parent _.
@@ -187,7 +189,7 @@ module _ {n : ℕ} where
       unless (not (eqb parent (p + 1) && ltb port count && eqb stands (child + 1))) _ _ λ e.
       gives port (omega (arith, most, ltb-true port count (middle (eqb parent (p + 1)) (eqb stands (child + 1)) (not-false _ e))))
 
-  pub child-reset : (p child : ℕ) → Goes n (hubChildReset p child)
+  pub child-reset : (p child : ℕ) → Goes u n (hubChildReset p child)
   unfolding hubChildReset
   child-reset p child = bind (port-of-child p child) λ port h. reset2 p port h
 

@@ -75,7 +75,7 @@ ran-left s Ok p = is-done p tt
 ran-left s (Error e) p = is-failed p
 ran-left s (Stop h) p = is-halted p
 
-caught-left : {S : Type 0} {P : S → Type 0} {r : Ran S (Unit {0})} → Left P Any r → Left P Any (caught r)
+pub caught-left : {S : Type 0} {P : S → Type 0} {r : Ran S (Unit {0})} → Left P Any r → Left P Any (caught r)
 caught-left (is-done p q) = is-done p tt
 caught-left (is-failed p) = is-done p tt
 caught-left (is-halted p) = is-halted p
@@ -131,6 +131,10 @@ module _ {S : Type 0} {P : S → Type 0} where
 
   pub whens : (b : Bool) {m : Program S (Unit {0})} → Keeps P m Any → Keeps P (when b m) Any
   whens b h = whens-to (λ s p. p) b (λ _. h)
+
+  -- after a test that refuses
+  pub unless : {B : Type 0} {Q : B → Type 0} (b : Bool) (e : ErrorCode) (k : Program S B) → (b ≡ false → Keeps P k Q) → Keeps P (when b (throw e) >> k) Q
+  unless b e k h = unless-to (λ s p. p) b e k h
 
   -- after a test that stops the call
   pub stops-if : {B : Type 0} {Q : B → Type 0} (b : Bool) (h : Halt) (k : Program S B) → (b ≡ false → Keeps P k Q) → Keeps P (when b (stop h) >> k) Q

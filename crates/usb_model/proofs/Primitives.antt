@@ -29,54 +29,54 @@ use Rattle.usb_model.specs.Kept.{Bytes, requestsIn, Good, Onward}
 use Rattle.usb_model.proofs.Bytes.{bytes-one, bytes-cons, bytes-append, zeros, bytes-le, bytes-take, bytes-drop, bytes-write, bytes-at, byte-at}
 use Rattle.usb_model.proofs.Onward.{onward-same}
 use Rattle.usb_model.proofs.Stores.{Plain, plain-less, none-follows, plain-follows, most-follows, child-follows, store-onward, store-good, Follows}
-use Rattle.usb_model.proofs.Keeps.{Any}
-use Rattle.usb_model.proofs.Walks.{Went, went, halted, Walks, Goes, bind, next, gives, throws, looks, changes, succeeds, whens}
+use Rattle.usb_model.proofs.Keeps.{Any, Left, is-done, is-halted, bind, next, gives, throws, looks, changes, succeeds, whens}
+use Rattle.usb_model.proofs.Walks.{Reach, Walks, Goes, reach-on}
 
 -- ---- the store
 
-written : {w : World} (t : List ℕ) → Good w → Follows (w .store) t → Onward w (withStore t w) × Good (withStore t w)
-written t g f = (store-onward t f, store-good t f g)
+written : {u w : World} {n : ℕ} (t : List ℕ) → Reach u n w → Follows (w .store) t → Reach u n (withStore t w)
+written t r f = reach-on r (store-onward t f) (store-good t f (r .good))
 
-module _ {n : ℕ} where
-  pub gets : (p f : ℕ) → Walks n (get p f) (λ v. v < 256)
+module _ {u : World} {n : ℕ} where
+  pub gets : (p f : ℕ) → Walks u n (get p f) (λ v. v < 256)
   unfolding get
-  gets p f = looks _ (λ w g l. byte-at (w .store) p f (g .store))
+  gets p f = looks _ (λ w r. byte-at (w .store) p f (r .good .store))
 
-  pub gets-most : (p : ℕ) → Walks n (get p MaxChildren) (λ v. v ≤ 10)
+  pub gets-most : (p : ℕ) → Walks u n (get p MaxChildren) (λ v. v ≤ 10)
   unfolding get
-  gets-most p = looks _ (λ w g l. g .most p)
+  gets-most p = looks _ (λ w r. r .good .most p)
 
-  pub gets-number : (p f k : ℕ) → Goes n (getNumber p f k)
+  pub gets-number : (p f k : ℕ) → Goes u n (getNumber p f k)
   unfolding getNumber
-  gets-number p f k = looks _ (λ w g l. tt)
+  gets-number p f k = looks _ (λ w r. tt)
 
-  pub gets-bytes : (p f k : ℕ) → Walks n (getBytes p f k) (λ bytes. Bytes bytes × (length bytes ≤ k))
+  pub gets-bytes : (p f k : ℕ) → Walks u n (getBytes p f k) (λ bytes. Bytes bytes × (length bytes ≤ k))
   unfolding getBytes
-  gets-bytes p f k = looks _ (λ w g l. (bytes-at (w .store) p f k (g .store), bytes-most (w .store) p f k))
+  gets-bytes p f k = looks _ (λ w r. (bytes-at (w .store) p f k (r .good .store), bytes-most (w .store) p f k))
 
-  puts-none : (p f : ℕ) → Goes n (putBytes p f [])
+  puts-none : (p f : ℕ) → Goes u n (putBytes p f [])
   unfolding putBytes
-  puts-none p f = changes _ (λ w g _. written _ g (none-follows g p f))
+  puts-none p f = changes _ (λ w x. written _ x (none-follows (x .good) p f))
 
-  pub puts-bytes : (p f k : ℕ) (vs : List ℕ) → Plain f k → length vs ≤ k → Bytes vs → Goes n (putBytes p f vs)
+  pub puts-bytes : (p f k : ℕ) (vs : List ℕ) → Plain f k → length vs ≤ k → Bytes vs → Goes u n (putBytes p f vs)
   unfolding putBytes
-  puts-bytes p f k vs r l b = changes _ (λ w g _. written _ g (plain-follows g p f vs (plain-less l r) b))
+  puts-bytes p f k vs r l b = changes _ (λ w x. written _ x (plain-follows (x .good) p f vs (plain-less l r) b))
 
-  pub puts : (p f v : ℕ) → Plain f 1 → v < 256 → Goes n (put p f v)
+  pub puts : (p f v : ℕ) → Plain f 1 → v < 256 → Goes u n (put p f v)
   unfolding put
-  puts p f v r l = changes _ (λ w g _. written _ g (plain-follows g p f (v ∷ []) r (bytes-one l)))
+  puts p f v r l = changes _ (λ w x. written _ x (plain-follows (x .good) p f (v ∷ []) r (bytes-one l)))
 
-  pub puts-number : (p f k v : ℕ) → Plain f k → Goes n (putNumber p f k v)
+  pub puts-number : (p f k v : ℕ) → Plain f k → Goes u n (putNumber p f k v)
   unfolding putNumber
-  puts-number p f k v r = changes _ (λ w g _. written _ g (plain-follows g p f (littleEndian k v) (plain-less (omega (arith, length-le k v)) r) (bytes-le k v)))
+  puts-number p f k v r = changes _ (λ w x. written _ x (plain-follows (x .good) p f (littleEndian k v) (plain-less (omega (arith, length-le k v)) r) (bytes-le k v)))
 
-  pub puts-most : (p v : ℕ) → p < n → v ≤ 10 → Goes n (put p MaxChildren v)
+  pub puts-most : (p v : ℕ) → p < n → v ≤ 10 → Goes u n (put p MaxChildren v)
   unfolding put
-  puts-most p v h l = changes _ (λ w g k. written _ g (most-follows g p v (omega (arith, first-most (w .store))) l))
+  puts-most p v h l = changes _ (λ w x. written _ x (most-follows (x .good) p v (omega (arith, x .used, first-most (w .store))) l))
 
-  pub puts-child : (p j c : ℕ) → j < 10 → p + 1 < c → c ≤ n → Goes n (put p (Child j) c)
+  pub puts-child : (p j c : ℕ) → j < 10 → p + 1 < c → c ≤ n → Goes u n (put p (Child j) c)
   unfolding put
-  puts-child p j c h above low = changes _ (λ w g k. written _ g (child-follows g p j c (omega (arith, first-most (w .store))) h above (omega arith)))
+  puts-child p j c h above low = changes _ (λ w x. written _ x (child-follows (x .good) p j c (omega (arith, x .used, first-most (w .store))) h above (omega (arith, x .used))))
 
 -- ---- the log
 
@@ -116,34 +116,34 @@ log-good {w} action requests b room g = record {
   child = g .child;
 }
 
-module _ {n : ℕ} (action : List ℕ) (long : length action ≡ 16) (b : Bytes action) where
+module _ {u : World} {n : ℕ} (action : List ℕ) (long : length action ≡ 16) (b : Bytes action) where
   -- an action that is no request
-  pub logs : requestsIn 1 action ≡ 0 → Goes n (logAction action)
+  pub logs : requestsIn 1 action ≡ 0 → Goes u n (logAction action)
   unfolding logAction _>>=_ _>>_ look when stop skip change
-  logs none = record { run = λ w g l. go w g (ltb (length (w .log) - w .at .logged) 16) refl }
+  logs none = record { run = λ w x. go w x (ltb (length (w .log) - w .at .logged) 16) refl }
     where
-      go : (w : World) → Good w → (t : Bool) → ltb (length (w .log) - w .at .logged) 16 ≡ t → Went Any w (on (cond t (stop {A = Unit {0}} LogFull) skip w) (λ _. change (appended action)))
-      go w g true e = halted (onward-same w) g
-      go w g false e =
-          went (log-onward action (w .at .requests) long (omega (arith, none))) (log-good {w = w} action (w .at .requests) b (omega (arith, ltb-false (length (w .log) - w .at .logged) 16 e, g .logged)) g) tt
+      go : (w : World) → Reach u n w → (t : Bool) → ltb (length (w .log) - w .at .logged) 16 ≡ t → Left (Reach u n) Any (on (cond t (stop {A = Unit {0}} LogFull) skip w) (λ _. change (appended action)))
+      go w x true e = is-halted x
+      go w x false e =
+          is-done (reach-on x (log-onward action (w .at .requests) long (omega (arith, none))) (log-good {w = w} action (w .at .requests) b (omega (arith, ltb-false (length (w .log) - w .at .logged) 16 e, x .good .logged)) (x .good))) tt
 
   -- a request, which is counted
-  pub sends : requestsIn 1 action ≡ 1 → Goes n (logRequest action)
+  pub sends : requestsIn 1 action ≡ 1 → Goes u n (logRequest action)
   unfolding logRequest logAction _>>=_ _>>_ look when stop skip change
-  sends one = record { run = λ w g l. go w g (ltb (length (w .log) - w .at .logged) 16) refl }
+  sends one = record { run = λ w x. go w x (ltb (length (w .log) - w .at .logged) 16) refl }
     where
-      go : (w : World) → Good w → (t : Bool) → ltb (length (w .log) - w .at .logged) 16 ≡ t → Went Any w (on (on (cond t (stop {A = Unit {0}} LogFull) skip w) (λ _. change (appended action))) (λ _. change counted))
-      go w g true e = halted (onward-same w) g
-      go w g false e =
-          went (log-onward action (w .at .requests + 1) long (omega (arith, one))) (log-good {w = w} action (w .at .requests + 1) b (omega (arith, ltb-false (length (w .log) - w .at .logged) 16 e, g .logged)) g) tt
+      go : (w : World) → Reach u n w → (t : Bool) → ltb (length (w .log) - w .at .logged) 16 ≡ t → Left (Reach u n) Any (on (on (cond t (stop {A = Unit {0}} LogFull) skip w) (λ _. change (appended action))) (λ _. change counted))
+      go w x true e = is-halted x
+      go w x false e =
+          is-done (reach-on x (log-onward action (w .at .requests + 1) long (omega (arith, one))) (log-good {w = w} action (w .at .requests + 1) b (omega (arith, ltb-false (length (w .log) - w .at .logged) 16 e, x .good .logged)) (x .good))) tt
 
-module _ {n : ℕ} where
-  pub waits : (microseconds : ℕ) → Goes n (microDelay microseconds)
+module _ {u : World} {n : ℕ} where
+  pub waits : (microseconds : ℕ) → Goes u n (microDelay microseconds)
   unfolding microDelay requestsIn
   waits microseconds =
       logs (waitAction microseconds) (wait-length microseconds) (bytes-append (bytes-cons (omega arith) (zeros 7)) (bytes-append (bytes-le 4 microseconds) (zeros 4))) refl
 
-  pub frames : Goes n dwcUpdateHostFrameInterval
+  pub frames : Goes u n dwcUpdateHostFrameInterval
   unfolding dwcUpdateHostFrameInterval requestsIn
   frames = logs frameIntervalAction frame-length (bytes-cons (omega arith) (zeros 15)) refl
 
@@ -206,38 +206,37 @@ took-good k l g = record {
   child = g .child;
 }
 
-pub takes : {n : ℕ} (asked : ℕ) → Walks n (takeOutcome asked) (λ o. Bytes (o .delivered))
+pub takes : {u : World} {n : ℕ} (asked : ℕ) → Walks u n (takeOutcome asked) (λ o. Bytes (o .delivered))
 unfolding takeOutcome _>>=_ _>>_ look when stop skip change return
-takes {n} asked = record {
-  run = λ w g l.
+takes {u} {n} asked = record {
+  run = λ w x.
       let rest : List ℕ = drop (w .at .taken) (w .outcomes) in
-      go w g rest refl (ltb (length rest) 4) (not (listed (getD rest 0 0) (getD rest 1 0))) (ltb (length rest) (4 + fromLittleEndian (take 2 (drop 2 rest)))) refl;
+      go w x rest refl (ltb (length rest) 4) (not (listed (getD rest 0 0) (getD rest 1 0))) (ltb (length rest) (4 + fromLittleEndian (take 2 (drop 2 rest)))) refl;
 }
   where
-    go : (w : World) → Good w → (rest : List ℕ) → rest ≡ drop (w .at .taken) (w .outcomes) → (short garbled cut : Bool) → ltb (length rest) (4 + fromLittleEndian (take 2 (drop 2 rest))) ≡ cut
-        → Went (λ (o : Outcome). Bytes (o .delivered)) w
+    go : (w : World) → Reach u n w → (rest : List ℕ) → rest ≡ drop (w .at .taken) (w .outcomes) → (short garbled cut : Bool) → ltb (length rest) (4 + fromLittleEndian (take 2 (drop 2 rest))) ≡ cut
+        → Left (Reach u n) (λ (o : Outcome). Bytes (o .delivered))
         ((cond short (stop {A = Unit {0}} OutcomesSpent) skip >> (cond garbled (stop {A = Unit {0}} GarbledOutcome) skip >> (cond cut (stop {A = Unit {0}} OutcomesSpent) skip >> (change (taken (4 + fromLittleEndian (take 2 (drop 2 rest)))) >> return (record { submit = getD rest 0 0; error = getD rest 1 0; delivered = take (min (fromLittleEndian (take 2 (drop 2 rest))) asked) (drop 4 rest) }))))) w)
-    go w g rest e true garbled cut t = halted (onward-same w) g
-    go w g rest e false true cut t = halted (onward-same w) g
-    go w g rest e false false true t = halted (onward-same w) g
-    go w g rest e false false false t =
+    go w x rest e true garbled cut t = is-halted x
+    go w x rest e false true cut t = is-halted x
+    go w x rest e false false true t = is-halted x
+    go w x rest e false false false t =
         let size : ℕ = fromLittleEndian (take 2 (drop 2 rest)) in
         let here : length rest ≡ length (w .outcomes) - w .at .taken = ap length e ∙ length-drop (w .at .taken) (w .outcomes) in
-        went (took-onward (4 + size))
-        (took-good (4 + size) (omega (arith, ltb-false (length rest) (4 + size) t, g .taken)) g)
-        (bytes-take (min size asked) (drop 4 rest) (bytes-drop 4 rest (subst Bytes (sym e) (bytes-drop (w .at .taken) (w .outcomes) (g .outcomes)))))
+        is-done (reach-on x (took-onward (4 + size)) (took-good (4 + size) (omega (arith, ltb-false (length rest) (4 + size) t, x .good .taken)) (x .good)))
+        (bytes-take (min size asked) (drop 4 rest) (bytes-drop 4 rest (subst Bytes (sym e) (bytes-drop (w .at .taken) (w .outcomes) (x .good .outcomes)))))
 
 -- where delivered bytes may go: no key of the place
 pub data Fits (b : Buffer) : Type 0 where
   room-none : b .room ≡ 0 → Fits b
   plain : Plain (b .field) (b .room) → Fits b
 
-delivers : {n : ℕ} (p : ℕ) (b : Buffer) (vs : List ℕ) → Fits b → Bytes vs → Goes n (putBytes p (b .field) (take (b .room) vs))
+delivers : {u : World} {n : ℕ} (p : ℕ) (b : Buffer) (vs : List ℕ) → Fits b → Bytes vs → Goes u n (putBytes p (b .field) (take (b .room) vs))
 delivers p b vs (room-none e) c = rw e (puts-none p (b .field))
 delivers p b vs (plain r) c = puts-bytes p (b .field) (b .room) _ r (omega (arith, length-take (b .room) vs)) (bytes-take (b .room) vs c)
 
-module _ {n : ℕ} (p : ℕ) (q : UsbDeviceRequest) (b : Buffer) (c : Byte-codes q) (fits : Fits b) where
-  pub messages : (address : ℕ) → address < 256 → Walks n (usbControlMessage p address q b) Bytes
+module _ {u : World} {n : ℕ} (p : ℕ) (q : UsbDeviceRequest) (b : Buffer) (c : Byte-codes q) (fits : Fits b) where
+  pub messages : (address : ℕ) → address < 256 → Walks u n (usbControlMessage p address q b) Bytes
   unfolding usbControlMessage requestsIn
   messages address h =
       bind (gets p _) λ speed s.
@@ -250,10 +249,10 @@ module _ {n : ℕ} (p : ℕ) (q : UsbDeviceRequest) (b : Buffer) (c : Byte-codes
       next (puts-number p LastTransfer 4 _ (record { past = omega arith; room = omega arith; apart = inl (omega arith) })) (
       next (succeeds _) (gives _ d)))))
 
-  pub controls : Walks n (control p q b) Bytes
+  pub controls : Walks u n (control p q b) Bytes
   unfolding control
   controls = bind (gets p _) λ address h. messages address h
 
-  pub reads : (minimum : ℕ) → Walks n (read p q minimum b) Bytes
+  pub reads : (minimum : ℕ) → Walks u n (read p q minimum b) Bytes
   unfolding read
   reads minimum = bind controls λ bytes h. next (whens _ (throws _)) (gives bytes h)

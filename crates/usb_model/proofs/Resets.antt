@@ -5,7 +5,6 @@ use mathlib.Core.List.{List, _∷_}
 use Prim.Native.Nat.{ℕ, zero, suc, _+_, _-_, _≤_, _<_}
 use native.Mathlib.Omega.{arith}
 use borrow.Author.Tests.{ltb-false, not-false}
-use lib.Dec.{ltb}
 use lib.ListN.{length}
 use Rattle.usb_types.specs.Numbers.{fromLittleEndian}
 use Rattle.usb_types.specs.Requests.{ClearFeature, SetFeature, ToPort, deviceRequest}
