@@ -5,12 +5,12 @@ use Prim.Native.Nat.{ℕ, zero, suc, _+_, _-_, _≤_, _<_}
 use native.Mathlib.Omega.{arith}
 use borrow.Author.Tests.{not-true}
 use lib.Dec.{eqb}
-use Rattle.usb_device.specs.Layout.{Number, Speed, Status, PortNumber, Parent, Hub, Child}
+use Rattle.usb_device.specs.Layout.{Places, Number, Speed, Status, PortNumber, Parent, Hub, Child}
 use Rattle.usb_device.specs.Device.{freePlaces}
 use Rattle.usb_device.proofs.Free.{first-most}
 use Rattle.usb_model.specs.World.{World, M}
 use Rattle.usb_model.specs.Hub.{hubPortConnectionChanged, hubCheckConnection, hubCheckConnectionDevice, hubAttach, isOk, scanPort, hubCheckForChange}
-use Rattle.usb_model.specs.Attach.{usbAttachDevice, attachBelow, usbAttachRootHub}
+use Rattle.usb_model.specs.Attach.{usbAttachDevice, attachBelow, attachNew, usbAttachRootHub}
 use Rattle.usb_model.proofs.Keeps.{bind, next, throws, succeeds, attempts, ignores, whens, skips}
 use Rattle.usb_model.proofs.Primitives.{gets, gets-most, puts, puts-most, puts-child, waits, frames}
 use Rattle.usb_model.proofs.Functions.{middle, small, read-device-descriptor, set-address, configures, read-hub-descriptor, get-status, change-feature, power-on, port-get-status, port-status, reset2, port-of-child, speed-low}
@@ -93,6 +93,10 @@ attach-fuel (suc k) (suc a) zero u f place x y h = absurd (omega arith)
 attach-fuel (suc k) (suc a) (suc b) u f place x y h =
     attach-device (attachBelow a) (attachBelow b) (λ v less p l. attach-fuel k a b v (omega arith) p (omega arith) (omega arith) l) place (omega arith)
 
+-- so the number of the entry points is enough: no larger one gives another run
+pub attach-enough : (b : ℕ) → Places ≤ b → (u : World) → freePlaces (u .store) < Places → (place : ℕ) → place < Places → Alike u (place + 1) (attachNew place) (attachBelow b place)
+attach-enough b l u f place h = attach-fuel Places _ b u f place (omega arith) l h
+
 pub root-hub : (u : World) (speed : ℕ) → speed < 256 → Alike u 0 (usbAttachRootHub speed) (usbAttachRootHub speed)
 unfolding usbAttachRootHub
 root-hub u speed h = allocate₂ λ v place less l inside.
@@ -128,3 +132,7 @@ module _ (free : ℕ) where
   scan-fuel u (suc a) (suc b) hub x y =
       bind₁ (gets-most hub) λ count most.
       eachs₂ count 0 (λ port l. scan-port hub port (omega arith) (omega (arith, most)) (λ v place m. scan-fuel v a b place (omega arith) (omega arith)))
+
+-- so the number of a scan is enough
+pub scan-enough : (u : World) (b hub : ℕ) → Places ≤ hub + b → Alike u (hub + 1) (hubCheckForChange attachNew Places hub) (hubCheckForChange attachNew b hub)
+scan-enough u b hub l = scan-fuel Places u Places b hub (omega arith) l

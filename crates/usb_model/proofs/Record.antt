@@ -54,7 +54,7 @@ module _ {D : List ℕ → Type 0} {P : Walk → Type 0} (c : Copies D P) where
   all-keeps : (d : List ℕ) → D d → Keeps P (walkAll d) Any
   unfolding walkAll
   all-keeps [] h = throws _
-  all-keeps (x ∷ d) h = from-keeps (length d + 1) (drop x (x ∷ d)) (c .rest x (x ∷ d) h)
+  all-keeps (x ∷ d) h = from-keeps _ (drop x (x ∷ d)) (c .rest x (x ∷ d) h)
 
   walk-keeps : (d kept : List ℕ) → D d → P (begin kept) → P (left (walkAll d (begin kept)))
   walk-keeps d kept h p = left-holds (all-keeps d h .run (begin kept) p)
@@ -136,3 +136,8 @@ walk-fuel (suc a) (suc b) [] x y k = refl
 walk-fuel (suc a) (suc b) (zero ∷ d) x y k = ends-same (walkFrom a (zero ∷ d)) (walkFrom b (zero ∷ d)) (descriptor (zero ∷ d) k) (ends d k)
 walk-fuel (suc a) (suc b) (suc z ∷ d) x y k =
     goes-same (walkFrom a (drop z d)) (walkFrom b (drop z d)) (descriptor (suc z ∷ d) k) (walk-fuel a b (drop z d) (omega (arith, length-drop z d)) (omega (arith, length-drop z d)))
+
+-- so the number of the walk is enough
+pub walk-enough : (b size : ℕ) (d : List ℕ) → length (size ∷ d) ≤ b → (k : Walk) → walkAll (size ∷ d) k ≡ walkFrom b (drop size (size ∷ d)) k
+unfolding walkAll
+walk-enough b size d l k = walk-fuel _ b (drop size (size ∷ d)) (omega (arith, length-drop size (size ∷ d))) (omega (arith, length-drop size (size ∷ d))) k
