@@ -1,4 +1,4 @@
--- Document 01, "Prove the M lines together as one computed table": both sides of specs/Bench.antt compute to the same rows. In three
+-- Document 01, "Prove the M lines together as one computed table": both sides of specs/Bench.antt compute to the same rows. In five
 -- parts, because all in one take more steps than antt allows a declaration. Assumes nothing.
 use mathlib.Core.Path.{_≡_, refl, ap₂}
 use mathlib.Core.List.{_++_}
@@ -18,7 +18,7 @@ use Rattle.usb_model.specs.Usbd.{readDeviceDescriptor, usbReadDeviceDesc
 use Rattle.usb_model.specs.Hub.{hubReadDescriptor, hubGetStatus, hubChangePortFeature, hubPowerOn, hubPortGetStatus, portStatus, awaitReset, hubPortReset2, awaitEnabled, resetTries, hubPortReset, portOfChild, hubChildReset, speedOf, hubPortConnectionChanged, hubCheckConnection, hubCheckConnectionDevice, hubAttach, scanPort, hubCheckForChange}
 use Rattle.usb_model.specs.Attach.{usbAttachDevice, attachBelow, usbAttachRootHub}
 use Rattle.usb_model.specs.Entry.{rootVerdict, hubVerdict, call, rootAttach, scan, portCheck, childReset, childCheck, retriedReset, connectionChange, configurationWalk}
-use Rattle.usb_model.specs.Bench.{rows, shown, walks, vacantHub, rootPlace, devicePlace, attachedStore, damagedStore, walkLines, walkRefusals, attach, firstRequest, hubLines, reset, resetLines, benchLines, again, rootRefusals, entries, hubRefusals, childAndPortRefusals, taken, otherRefusals, onStores, table, expected}
+use Rattle.usb_model.specs.Bench.{rows, shown, walks, vacantHub, rootPlace, devicePlace, attachedStore, damagedStore, walkLines, walkRefusals, attach, firstRequest, hubLines, reset, resetLines, benchLines, again, rootRefusals, entries, hubRefusals, childAndPortRefusals, taken, otherRefusals, addressed, configured, described, powered, hubAndDevice, walkMore, speedLines, attachFull, shortReads, amended, endpointLines, stopLines, deviceLines, checks, portLines, changes, changeLines, retries, retryLines, childLines, attachLines, hubCallLines, onStores, table, expected}
 
 -- what the lines compute with
 definitions : Unit {0}
@@ -40,6 +40,8 @@ unfolding listed errorWord submitResults resultOf directionOf directionBit devic
     configurationWalk
     rows shown walks vacantHub rootPlace devicePlace attachedStore damagedStore walkLines walkRefusals attach firstRequest
     hubLines reset resetLines benchLines again rootRefusals entries hubRefusals childAndPortRefusals taken otherRefusals
+    addressed configured described powered hubAndDevice walkMore speedLines attachFull shortReads amended endpointLines
+    stopLines deviceLines checks portLines changes changeLines retries retryLines childLines attachLines hubCallLines
 definitions = tt
 
 bench-lines : onStores benchLines (λ line. line .computed) ≡ onStores benchLines (λ line. line .due)
@@ -54,6 +56,14 @@ other-refusals : onStores otherRefusals (λ line. line .computed) ≡ onStores o
 unfolding definitions
 other-refusals = refl
 
+attach-lines : onStores attachLines (λ line. line .computed) ≡ onStores attachLines (λ line. line .due)
+unfolding definitions
+attach-lines = refl
+
+hub-call-lines : onStores hubCallLines (λ line. line .computed) ≡ onStores hubCallLines (λ line. line .due)
+unfolding definitions
+hub-call-lines = refl
+
 pub bench : table ≡ expected
 unfolding table expected
-bench = ap₂ _++_ (ap₂ _++_ bench-lines root-refusals) other-refusals
+bench = ap₂ _++_ (ap₂ _++_ (ap₂ _++_ (ap₂ _++_ bench-lines root-refusals) other-refusals) attach-lines) hub-call-lines
