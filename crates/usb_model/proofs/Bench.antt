@@ -18,7 +18,7 @@ use Rattle.usb_model.specs.Usbd.{readDeviceDescriptor, usbReadDeviceDesc
 use Rattle.usb_model.specs.Hub.{hubReadDescriptor, hubGetStatus, hubChangePortFeature, hubPowerOn, hubPortGetStatus, portStatus, awaitReset, hubPortReset2, awaitEnabled, resetTries, hubPortReset, portOfChild, hubChildReset, speedOf, hubPortConnectionChanged, hubCheckConnection, hubCheckConnectionDevice, hubAttach, scanPort, hubCheckForChange}
 use Rattle.usb_model.specs.Attach.{usbAttachDevice, attachBelow, usbAttachRootHub}
 use Rattle.usb_model.specs.Entry.{rootVerdict, hubVerdict, call, rootAttach, scan, portCheck, childReset, childCheck, retriedReset, connectionChange, configurationWalk}
-use Rattle.usb_model.specs.Bench.{rows, shown, walks, vacantHub, rootPlace, devicePlace, attachedStore, damagedStore, walkLines, walkRefusals, attach, firstRequest, hubLines, reset, resetLines, benchLines, again, rootRefusals, entries, hubRefusals, childAndPortRefusals, taken, otherRefusals, addressed, configured, described, powered, hubAndDevice, walkMore, speedLines, attachFull, shortReads, amended, endpointLines, stopLines, deviceLines, checks, portLines, changes, changeLines, retries, retryLines, childLines, attachLines, hubCallLines, onStores, table, expected}
+use Rattle.usb_model.specs.Bench.{rows, shown, walks, vacantHub, rootPlace, devicePlace, attachedStore, damagedStore, walkLines, walkRefusals, attach, firstRequest, hubLines, reset, resetLines, benchLines, again, rootRefusals, entries, hubRefusals, childAndPortRefusals, taken, otherRefusals, addressed, configured, described, powered, hubAndDevice, walkMore, speedLines, attachFull, shortReads, longLines, amended, endpointLines, stopLines, deviceLines, checks, portLines, changes, changeLines, retries, retryLines, childLines, attachLines, hubCallLines, onStores, table, expected}
 
 -- what the lines compute with
 definitions : Unit {0}
@@ -40,7 +40,7 @@ unfolding listed errorWord submitResults resultOf directionOf directionBit devic
     configurationWalk
     rows shown walks vacantHub rootPlace devicePlace attachedStore damagedStore walkLines walkRefusals attach firstRequest
     hubLines reset resetLines benchLines again rootRefusals entries hubRefusals childAndPortRefusals taken otherRefusals
-    addressed configured described powered hubAndDevice walkMore speedLines attachFull shortReads amended endpointLines
+    addressed configured described powered hubAndDevice walkMore speedLines attachFull shortReads longLines amended endpointLines
     stopLines deviceLines checks portLines changes changeLines retries retryLines childLines attachLines hubCallLines
 definitions = tt
 

@@ -576,6 +576,18 @@ module _ (empty attached damaged : List ℕ) where
       (0x01 ∷ 0x01 ∷ 0x00 ∷ 0x04 ∷ 0x01 ∷ 0x00 ∷ 0x00 ∷ 0x02 ∷ 3 ∷ [])
       ∷ []
 
+  -- a hub descriptor of 10 bytes, the last of them 0xff
+  abbrev pub longDescriptor : List ℕ
+  longDescriptor = set (hubDescriptor 3 1) 0 10 ++ 0xff ∷ []
+
+  -- "writes hub descriptors over 9 bytes (8 ports or more) past their box, where the port keeps 9". The hub's status is refused; bytes
+  -- 12 to 55 of the place: last transfer, device, configuration and hub descriptor, and no hub status
+  unfoldable pub longLines : List Line
+  longLines =
+      shown (field 12 44) (attach (configured ++ gives (take 2 longDescriptor) ++ gives longDescriptor ++ outcome 4 0 [])) ⇒ row (minus 4) 9
+      (replicate 4 0x00 ++ device ++ take 9 configuration ++ take 9 longDescriptor ++ replicate 4 0x00)
+      ∷ []
+
   -- the same hub, but byte n of its full configuration is v: 13 is bNumEndpoints, 14 bInterfaceClass, 20 bEndpointAddress, 21
   -- bmAttributes
   unfoldable pub amended : ℕ → ℕ → Left
@@ -769,7 +781,7 @@ module _ (empty attached damaged : List ℕ) where
       ∷ []
 
   unfoldable pub attachLines : List Line
-  attachLines = walkMore ++ speedLines ++ shortReads ++ endpointLines ++ stopLines ++ deviceLines
+  attachLines = walkMore ++ speedLines ++ shortReads ++ longLines ++ endpointLines ++ stopLines ++ deviceLines
 
   unfoldable pub hubCallLines : List Line
   hubCallLines = portLines ++ changeLines ++ retryLines ++ childLines
