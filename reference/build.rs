@@ -33,5 +33,6 @@ fn main() {
         let usb = usb.canonicalize().expect("the folder that was just read");
         println!("cargo::rustc-env=REFERENCE_USB={}", usb.display());
         println!("cargo::rustc-cfg=have_original");
+        println!("cargo::metadata=found=1");
     }
 }

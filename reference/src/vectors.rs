@@ -38,6 +38,24 @@ pub fn folder() -> PathBuf {
     PathBuf::from(concat!(env!("CARGO_MANIFEST_DIR"), "/../vectors"))
 }
 
+pub fn recorded_calls() -> Vec<RecordedCall> {
+    all_of("calls.bin", RecordedCall::read)
+}
+
+pub fn recorded_walks() -> Vec<RecordedWalk> {
+    all_of("walks.bin", RecordedWalk::read)
+}
+
+fn all_of<T>(file: &str, read: fn(&mut Reader) -> T) -> Vec<T> {
+    let bytes = std::fs::read(folder().join(file)).expect(file);
+    let mut reader = Reader(&bytes);
+    let mut all = Vec::new();
+    while !reader.is_done() {
+        all.push(read(&mut reader));
+    }
+    all
+}
+
 impl RecordedCall {
     pub fn write(&self, to: &mut Vec<u8>) {
         let entry = Entry::ALL

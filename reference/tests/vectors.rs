@@ -2,27 +2,7 @@
 
 use reference::call::{Call, Entry};
 use reference::check_sum::adler;
-use reference::vectors::{folder, Reader, RecordedCall, RecordedWalk};
-
-fn calls() -> Vec<RecordedCall> {
-    let bytes = std::fs::read(folder().join("calls.bin")).expect("vectors/calls.bin");
-    let mut reader = Reader(&bytes);
-    let mut calls = Vec::new();
-    while !reader.is_done() {
-        calls.push(RecordedCall::read(&mut reader));
-    }
-    calls
-}
-
-fn walks() -> Vec<RecordedWalk> {
-    let bytes = std::fs::read(folder().join("walks.bin")).expect("vectors/walks.bin");
-    let mut reader = Reader(&bytes);
-    let mut walks = Vec::new();
-    while !reader.is_done() {
-        walks.push(RecordedWalk::read(&mut reader));
-    }
-    walks
-}
+use reference::vectors::{recorded_calls, recorded_walks, Reader, RecordedCall, RecordedWalk};
 
 #[test]
 fn the_check_sum_is_adler_32() {
@@ -86,7 +66,7 @@ fn a_walk_is_laid_out_as_the_format_says() {
 
 #[test]
 fn every_entry_point_and_answer_is_recorded() {
-    let calls = calls();
+    let calls = recorded_calls();
     assert!(calls.len() >= 3_000);
     assert!(calls[0].starts);
     for entry in Entry::ALL {
@@ -100,7 +80,7 @@ fn every_entry_point_and_answer_is_recorded() {
             "answer {answer}"
         );
     }
-    let walks = walks();
+    let walks = recorded_walks();
     assert!(walks.len() >= 3_000);
     for answer in [0, -2, -4] {
         assert!(
@@ -114,12 +94,12 @@ fn every_entry_point_and_answer_is_recorded() {
 #[test]
 fn the_original_answers_as_recorded() {
     let mut replay = reference::vectors::Replay::default();
-    for (at, recorded) in calls().iter().enumerate() {
+    for (at, recorded) in recorded_calls().iter().enumerate() {
         let (answered, report) = replay.call(recorded);
         assert_eq!(report.ended, reference::call::Ended::Inside, "call {at}");
         assert!(answered == *recorded, "call {at}: {report:?}");
     }
-    for (at, recorded) in walks().iter().enumerate() {
+    for (at, recorded) in recorded_walks().iter().enumerate() {
         let length = recorded.record_length as usize;
         let answered = reference::vectors::walk(&recorded.descriptors, length);
         assert_eq!(answered.as_ref(), Some(recorded), "walk {at}");

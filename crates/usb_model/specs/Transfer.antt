@@ -12,6 +12,7 @@ use Rattle.usb_types.specs.declared.types.ErrorCode.the-variants.{Device}
 use Rattle.usb_types.specs.declared.types.Halt.the-variants.{GarbledOutcome, OutcomesSpent}
 use Rattle.usb_types.specs.declared.request.UsbDeviceRequest.{UsbDeviceRequest}
 use Rattle.usb_device.specs.Layout.{Number, Speed, Error, LastTransfer, MaxPacketSize0}
+pub use Rattle.usb_model.specs.declared.Buffer.{Buffer}
 use Rattle.usb_model.specs.Programs.{_>>=_, _>>_, return, throw, stop, look, change, succeed, when}
 use Rattle.usb_model.specs.World.{World, M, get, putBytes, putNumber, logRequest}
 
@@ -43,10 +44,6 @@ takeOutcome asked = do
   return (record { submit = getD rest 0 0; error = getD rest 1 0; delivered = take (min size asked) (drop 4 rest) })
 
 -- where delivered bytes go: at most `room` of them, to a field of the device
-pub record Buffer : Type 0 where
-  pub field : ℕ
-  pub room : ℕ
-
 abbrev pub into : ℕ → ℕ → Buffer
 into field room = record { field = field; room = room }
 

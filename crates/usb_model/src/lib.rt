@@ -6,3 +6,9 @@ pub struct Progress {
     pub taken: usize,
     pub requests: usize,
 }
+
+// Where the bytes that a transfer delivers go: at most room of them, to a field of the device.
+pub struct Buffer {
+    pub field: usize,
+    pub room: usize,
+}

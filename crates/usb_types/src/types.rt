@@ -5,6 +5,13 @@ ghost use Rattle.usb_types.specs.Answers.{errorNumber, haltNumber, answe
 ghost use Rattle.usb_types.specs.Outcomes.{listed, errorWord, resultOf};
 ghost use Rattle.usb_types.specs.Actions.{packetSize};
 
+// A byte as a number to count and index with.
+pub fn wide(b: u8) -> usize
+    ensures { λ r. ⌜ (r ≡ b) × (r < 256) ⌝ }
+{
+    b as usize
+}
+
 // ResultCode -1 to -9, and the two codes of document 01 that travel upward as these do.
 pub enum ErrorCode {
     General,

@@ -1,0 +1,4 @@
+pub mod Steps
+pub mod Logged
+pub mod Outcomes
+pub mod Messages

@@ -1,0 +1,79 @@
+-- The ways through the functions of the log, over plain values. Assumes nothing.
+use mathlib.Core.Path.{_≡_, refl, sym, ap, _∙_}
+use mathlib.Core.Bool.{Bool, true, false, cond}
+use mathlib.Core.List.{List, []}
+use Prim.Native.Nat.{ℕ, _+_, _-_, _≤_, _<_}
+use native.Mathlib.Omega.{arith}
+use borrow.Author.Tests.{lt-ltb, le-ltb}
+use lib.Dec.{ltb}
+use lib.ListN.{length}
+use Rattle.usb_types.specs.declared.types.Halt.the-variants.{LogFull}
+use Rattle.usb_types.specs.declared.types.Answer.{Answer}
+use Rattle.usb_types.specs.declared.types.Answer.the-variants.{Ok, Stop}
+use Rattle.usb_device.specs.Access.{write}
+use Rattle.usb_model.specs.declared.Progress.{Progress}
+use Rattle.usb_model.specs.Programs.{Ran, done, fail, halt, on, _>>=_, _>>_, stop, skip, look, change, when, ran}
+use Rattle.usb_model.specs.World.{World, M, logAction, logRequest, appended, counted}
+use Rattle.usb_transfer.specs.Runs.{here, Fit, Room, Writes}
+use Rattle.usb_transfer.proofs.Steps.{NotOk, then-is, on-ended, ran-gave}
+
+module _ (l : List ℕ) (at : Progress) (action : List ℕ) (r : Room l at) where
+  pub action-full : length l - at .logged < 16 → Writes (logAction action) l at (Stop LogFull) l at
+  unfolding logAction _>>=_ _>>_ look when stop
+  action-full h = record { is = λ s o. simp (lt-ltb _ _ h); room = r; taken = refl }
+
+  pub action-logged : 16 ≤ length l - at .logged → (l′ : List ℕ) → l′ ≡ write l (at .logged) action → length l′ ≡ length l
+      → Writes (logAction action) l at Ok l′ (record { logged = at .logged + 16; taken = at .taken; requests = at .requests })
+  unfolding logAction _>>=_ _>>_ look when skip change
+  action-logged h l′ e n = record {
+    is = λ s o. simp (le-ltb _ _ h, e);
+    room = record { logged = omega (arith, n); counted = omega arith };
+    taken = refl;
+  }
+
+-- where an action was logged
+logged-at : (action l l′ : List ℕ) (at at′ : Progress) → logAction action (here [] l [] at) ≡ done tt (here [] l′ [] at′)
+    → at′ ≡ record { logged = at .logged + 16; taken = at .taken; requests = at .requests }
+unfolding logAction _>>=_ _>>_ look when stop skip change
+logged-at action l l′ at at′ e = go (ltb (length l - at .logged) 16) e
+  where
+    endAt : Ran World (Unit {0}) → Progress
+    endAt (done a w) = w .at
+    endAt (fail e w) = w .at
+    endAt (halt h w) = w .at
+
+    ends : Ran World (Unit {0}) → ℕ
+    ends (done a w) = 0
+    ends (fail e w) = 1
+    ends (halt h w) = 1
+
+    go : (full : Bool) → on (cond full (stop {A = Unit {0}} LogFull) skip (here [] l [] at)) (λ _. change (appended action)) ≡ done tt (here [] l′ [] at′)
+        → at′ ≡ record { logged = at .logged + 16; taken = at .taken; requests = at .requests }
+    go true e = let z : _≡_ {A = ℕ} 1 0 = ap ends e in absurd (omega arith)
+    go false e = sym (ap endAt e)
+
+module _ (l : List ℕ) (at : Progress) (action l′ : List ℕ) (at′ : Progress) where
+  pub request-ended : (a : Answer) → Writes (logAction action) l at a l′ at′ → NotOk a → Writes (logRequest action) l at a l′ at′
+  unfolding logRequest
+  request-ended a r n = record {
+    is = λ s o. then-is (logAction action) _ _ (r .is s o ∙ ran-gave a _) (change counted) ∙ on-ended a tt tt _ (λ _. change counted) n ∙ sym (ran-gave a _);
+    room = r .room;
+    taken = r .taken;
+  }
+
+  pub request-logged : Writes (logAction action) l at Ok l′ at′ → Room l at
+      → Writes (logRequest action) l at Ok l′ (record { logged = at′ .logged; taken = at′ .taken; requests = at′ .requests + 1 })
+  unfolding logRequest change
+  request-logged r room = record {
+    is = λ s o. then-is (logAction action) _ _ (r .is s o) (change counted);
+    room = let further = logged-at action l l′ at at′ (r .is [] []) in record { logged = r .room .logged; counted = omega (arith, ap (λ (p : Progress). p .requests) further, ap (λ (p : Progress). p .logged) further, room .counted) };
+    taken = r .taken;
+  }
+
+pub fit-after : {m : M (Unit {0})} {s l o l′ : List ℕ} {at at′ : Progress} {a : Answer} → Writes m l at a l′ at′ → Fit (here s l o at) → Fit (here s l′ o at′)
+fit-after r f = record {
+  whole = f .whole;
+  logged = r .room .logged;
+  taken = omega (arith, r .taken, f .taken);
+  counted = r .room .counted;
+}
