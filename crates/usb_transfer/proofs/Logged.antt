@@ -14,8 +14,8 @@ use Rattle.usb_device.specs.Access.{write}
 use Rattle.usb_model.specs.declared.Progress.{Progress}
 use Rattle.usb_model.specs.Programs.{Ran, done, fail, halt, on, _>>=_, _>>_, stop, skip, look, change, when, ran}
 use Rattle.usb_model.specs.World.{World, M, logAction, logRequest, appended, counted}
-use Rattle.usb_transfer.specs.Runs.{here, Fit, Room, Writes}
-use Rattle.usb_transfer.proofs.Steps.{NotOk, then-is, on-ended, ran-gave}
+use Rattle.usb_transfer.specs.Runs.{here, Fit, Ends, Room, Writes}
+use Rattle.usb_transfer.proofs.Steps.{NotOk, then-is, on-ended}
 
 module _ (l : List ℕ) (at : Progress) (action : List ℕ) (r : Room l at) where
   pub action-full : length l - at .logged < 16 → Writes (logAction action) l at (Stop LogFull) l at
@@ -56,7 +56,7 @@ module _ (l : List ℕ) (at : Progress) (action l′ : List ℕ) (at′ : Progre
   pub request-ended : (a : Answer) → Writes (logAction action) l at a l′ at′ → NotOk a → Writes (logRequest action) l at a l′ at′
   unfolding logRequest
   request-ended a r n = record {
-    is = λ s o. then-is (logAction action) _ _ (r .is s o ∙ ran-gave a _) (change counted) ∙ on-ended a tt tt _ (λ _. change counted) n ∙ sym (ran-gave a _);
+    is = λ s o. then-is (logAction action) _ _ (r .is s o) (change counted) ∙ on-ended a tt tt _ (λ _. change counted) n;
     room = r .room;
     taken = r .taken;
   }
@@ -77,3 +77,7 @@ fit-after r f = record {
   taken = omega (arith, r .taken, f .taken);
   counted = r .room .counted;
 }
+
+-- what a function of the log promises, of a world
+pub logged : {m : M (Unit {0})} {l l′ : List ℕ} {s o : List ℕ} {at at′ : Progress} {a : Answer} → Writes m l at a l′ at′ → Fit (here s l o at) → Ends m (here s l o at) a tt (here s l′ o at′)
+logged {s = s} {o = o} r f = record { is = r .is s o; fit = fit-after r f }

@@ -28,8 +28,8 @@ use Rattle.usb_transfer.specs.declared.outcome.NextOutcome.the-variants.
 use Rattle.usb_transfer.specs.Runs.{here, Fit, gave, dataOf, Given, Gives, Writes}
 use Rattle.usb_transfer.specs.Outcomes.{Takes}
 use Rattle.usb_transfer.specs.Parts.{pipeOf, kept, passed, handed, lengthOf, receiving}
-use Rattle.usb_transfer.proofs.Steps.{NotOk, bind-is, then-is, on-ended, ran-gave}
-use Rattle.usb_transfer.proofs.Logged.{fit-after}
+use Rattle.usb_transfer.proofs.Steps.{NotOk, bind-is, bound, bound-ended, next, next-ended, got, unless, thrown, returned}
+use Rattle.usb_transfer.proofs.Logged.{logged}
 
 -- no bytes where the answer is not Ok
 none-given : (a : Answer) (o : List ℕ) (t : ℕ) → NotOk a → Given a o t (lengthOf a 0)
@@ -90,7 +90,7 @@ returns-given (Stop h) o t n w = refl
 module _ (s l o : List ℕ) (at : Progress) (place asked : ℕ) (buffer : Buffer) (f : Fit (here s l o at)) where
   pub received-none : (x : Halt) → Takes (drop (at .taken) o) (Missing x) → Gives (receiving place asked buffer) (here s l o at) (Stop x) 0 (here s l o at)
   unfolding receiving
-  received-none x t = record { is = bind-is (takeOutcome asked) _ _ (t .is asked _ refl) _; fit = f; given = refl }
+  received-none x t = record { ends = record { is = bind-is (takeOutcome asked) _ _ (t .is asked _ refl) _; fit = f }; given = refl }
 
   pub received : (h : Header) → Takes (drop (at .taken) o) (Whole h) → (s′ : List ℕ)
       → s′ ≡ kept s place (h .error) (dataOf o (at .taken) (min (h .size) asked)) buffer → length s′ ≡ length s
@@ -100,8 +100,10 @@ module _ (s l o : List ℕ) (at : Progress) (place asked : ℕ) (buffer : Buffer
       let n : ℕ = min (h .size) asked in
       let rest : length (drop (at .taken) o) ≡ length o - at .taken = length-drop (at .taken) o in
       record {
-        is = bind-is (takeOutcome asked) _ _ (t .is asked _ refl) _ ∙ rw (drop-drop 4 (at .taken) o, ← e) (returns-given (resultOf (h .submit) (h .error)) o (at .taken) n _);
-        fit = record { whole = long ∙ f .whole; logged = f .logged; taken = omega (arith, t .good .inside, rest, f .taken); counted = f .counted };
+        ends = record {
+          is = bind-is (takeOutcome asked) _ _ (t .is asked _ refl) _ ∙ rw (drop-drop 4 (at .taken) o, ← e) (returns-given (resultOf (h .submit) (h .error)) o (at .taken) n _);
+          fit = record { whole = long ∙ f .whole; logged = f .logged; taken = omega (arith, t .good .inside, rest, f .taken); counted = f .counted };
+        };
         given = all-given (resultOf (h .submit) (h .error)) o (at .taken) n (omega (arith, t .good .inside, rest, f .taken));
       }
 
@@ -114,50 +116,47 @@ module _ (s l o : List ℕ) (at : Progress) (place address : ℕ) (request : Usb
 
   pub message-unsent : (a : Answer) → Writes (logRequest (requestAction (pipeOf s place address) request)) l at a l′ at′ → NotOk a
       → Fit (here s l o at) → Gives (usbControlMessage place address request buffer) (here s l o at) a (lengthOf a 0) (here s l′ o at′)
-  message-unsent a r n f = record {
-    is = splits ∙ then-is (logRequest _) _ _ (r .is s o ∙ ran-gave a _) _ ∙ on-ended a tt _ _ _ n;
-    fit = fit-after r f;
-    given = none-given a o (at .taken) n;
-  }
+  message-unsent a r n f =
+      let e = next-ended (receiving place (request .length) buffer) (dataOf o (at .taken) (lengthOf a 0)) (logged r f) n in
+      record { ends = record { is = splits ∙ e .is; fit = e .fit }; given = none-given a o (at .taken) n }
 
-  pub message-sent : Writes (logRequest (requestAction (pipeOf s place address) request)) l at Ok l′ at′ → (a : Answer) (n : ℕ) (s′ : List ℕ) (at″ : Progress)
+  pub message-sent : Writes (logRequest (requestAction (pipeOf s place address) request)) l at Ok l′ at′ → Fit (here s l o at)
+      → (a : Answer) (n : ℕ) (s′ : List ℕ) (at″ : Progress)
       → Gives (receiving place (request .length) buffer) (here s l′ o at′) a n (here s′ l′ o at″)
       → Gives (usbControlMessage place address request buffer) (here s l o at) a n (here s′ l′ o at″)
-  message-sent r a n s′ at″ g =
+  message-sent r f a n s′ at″ g =
+      let e = next (logged r f) (g .ends) in
       record {
-        is = splits ∙ then-is (logRequest _) _ _ (r .is s o) _ ∙ g .is ∙ ap (λ (t : ℕ). gave a (dataOf o t n) (here s′ l′ o at″)) (r .taken);
-        fit = g .fit;
+        ends = record { is = splits ∙ e .is ∙ ap (λ (t : ℕ). gave a (dataOf o t n) (here s′ l′ o at″)) (r .taken); fit = e .fit };
         given = subst (λ (t : ℕ). Given a o t n) (r .taken) (g .given);
       }
 
 -- a request to the device's own number
 pub controlled : (s l o : List ℕ) (at : Progress) (place : ℕ) (request : UsbDeviceRequest) (buffer : Buffer) (a : Answer) (n : ℕ) (v : World)
     → Gives (usbControlMessage place (byteAt s place Number) request buffer) (here s l o at) a n v → Gives (control place request buffer) (here s l o at) a n v
-unfolding control get look _>>=_
-controlled s l o at place request buffer a n v g = record { is = g .is; fit = g .fit; given = g .given }
+unfolding control
+controlled s l o at place request buffer a n v g = record { ends = got _ _ _ (g .ends); given = g .given }
 
-data-length : (o : List ℕ) (t n : ℕ) → t + 4 + n ≤ length o → length (dataOf o t n) ≡ n
+pub data-length : (o : List ℕ) (t n : ℕ) → t + 4 + n ≤ length o → length (dataOf o t n) ≡ n
 data-length o t n h = omega (arith, length-take n (drop (t + 4) o), length-drop (t + 4) o)
 
 module _ (w v : World) (place : ℕ) (request : UsbDeviceRequest) (minimum : ℕ) (buffer : Buffer) (n : ℕ) where
   pub read-ended : (a : Answer) → Gives (control place request buffer) w a n v → NotOk a → Gives (read place request minimum buffer) w a n v
   unfolding read
-  read-ended a g ended =
-      record { is = bind-is (control place request buffer) _ _ (g .is) _ ∙ on-ended a _ _ v _ ended; fit = g .fit; given = g .given }
+  read-ended a g ended = record { ends = bound-ended _ _ (g .ends) ended; given = g .given }
 
   module _ (g : Gives (control place request buffer) w Ok n v) where
+    bytes : List ℕ
+    bytes = dataOf (w .outcomes) (w .at .taken) n
+
+    long : length bytes ≡ n
+    unfolding bytes
+    long = data-length (w .outcomes) (w .at .taken) n (g .given)
+
     pub read-short : n < minimum → Gives (read place request minimum buffer) w (Error Device) 0 v
-    unfolding read _>>_ when throw
-    read-short h = record {
-      is = bind-is (control place request buffer) _ _ (g .is) _ ∙ simp (data-length (w .outcomes) (w .at .taken) n (g .given), lt-ltb _ _ h);
-      fit = g .fit;
-      given = refl;
-    }
+    unfolding read bytes
+    read-short h = record { ends = bound _ (g .ends) (thrown _ _ _ (lt-ltb (length bytes) minimum (rw long h)) (g .ends .fit)); given = refl }
 
     pub read-enough : minimum ≤ n → Gives (read place request minimum buffer) w Ok n v
-    unfolding read _>>_ when skip return
-    read-enough h = record {
-      is = bind-is (control place request buffer) _ _ (g .is) _ ∙ simp (data-length (w .outcomes) (w .at .taken) n (g .given), le-ltb _ _ h);
-      fit = g .fit;
-      given = g .given;
-    }
+    unfolding read bytes
+    read-enough h = record { ends = bound _ (g .ends) (unless _ (le-ltb (length bytes) minimum (rw long h)) (returned _ (g .ends .fit))); given = g .given }

@@ -1,17 +1,27 @@
--- How a run goes on after a step whose answer is known. Assumes nothing.
-use mathlib.Core.Path.{_≡_, refl, ap}
-use mathlib.Core.List.{[], _∷_}
+-- How a run goes on after a step whose answer is known. Each law fits one statement of a `do` block, so that a function's proof
+-- follows its program line by line. Assumes nothing.
+use mathlib.Core.Path.{_≡_, refl, sym, ap, _∙_, subst}
+use mathlib.Core.Bool.{Bool, true, false, cond}
+use mathlib.Core.List.{List, [], _∷_}
 use mathlib.Core.Logic.{⊎-elim}
-use Prim.Native.Nat.{ℕ}
+use Prim.Native.Nat.{ℕ, zero, suc, _+_}
 use native.Mathlib.Omega.{arith}
+use lib.ListN.{length}
 use types.Run.{OneOf}
 use denote.Enum.Declared.{tagOf}
 use Rattle.usb_types.proofs.types.Answer.{the-type}
+use Rattle.usb_types.specs.declared.types.ErrorCode.{ErrorCode}
+use Rattle.usb_types.specs.declared.types.Halt.{Halt}
 use Rattle.usb_types.specs.declared.types.Answer.{Answer}
 use Rattle.usb_types.specs.declared.types.Answer.the-variants.{Ok, Error, Stop}
-use Rattle.usb_model.specs.Programs.{Ran, on, _>>=_, _>>_, ran}
-use Rattle.usb_model.specs.World.{World, M}
-use Rattle.usb_transfer.specs.Runs.{gave}
+use Rattle.usb_device.specs.Access.{byteAt, numberAt, withBytes}
+use Rattle.usb_device.proofs.Fields.{with-length}
+use Rattle.usb_model.specs.declared.Progress.{Progress}
+use Rattle.usb_model.specs.Programs.{Ran, done, fail, halt, on, _>>=_, _>>_, return, skip, throw, look, change, ran, succeed, caught, attempt, ignore, when, each}
+use Rattle.usb_model.specs.World.{World, M, get, getNumber, putBytes, put}
+use Rattle.usb_transfer.specs.Runs.{here, Fit, gave, Ends}
+
+-- ---- what a branch on an answer tells
 
 unfoldable pub NotOk : Answer → Type 0
 NotOk Ok = ⊥
@@ -25,6 +35,15 @@ not-ok Ok t = ⊎-elim (λ (h : _≡_ {A = ℕ} 0 1). omega arith) (λ (h : _≡
 not-ok (Error e) t = tt
 not-ok (Stop h) t = tt
 
+-- a step that did not answer Ok ends the run with its answer
+pub on-ended : {A B : Type 0} (a : Answer) (x : A) (y : B) (w : World) (k : A → M B) → NotOk a → on (gave a x w) k ≡ gave a y w
+unfolding NotOk
+on-ended Ok x y w k n = absurd n
+on-ended (Error e) x y w k n = refl
+on-ended (Stop h) x y w k n = refl
+
+-- ---- one step, and the rest
+
 module _ {A B : Type 0} (m : M A) (w : World) (r : Ran World A) (e : m w ≡ r) where
   pub bind-is : (k : A → M B) → (m >>= k) w ≡ on r k
   unfolding _>>=_
@@ -34,14 +53,98 @@ module _ {A B : Type 0} (m : M A) (w : World) (r : Ran World A) (e : m w ≡ r) 
   unfolding _>>_
   then-is k = ap (λ (r : Ran World A). on r (λ _. k)) e
 
--- a step that did not answer Ok ends the run with its answer
-pub on-ended : {A B : Type 0} (a : Answer) (x : A) (y : B) (w : World) (k : A → M B) → NotOk a → on (gave a x w) k ≡ gave a y w
-unfolding NotOk
-on-ended Ok x y w k n = absurd n
-on-ended (Error e) x y w k n = refl
-on-ended (Stop h) x y w k n = refl
+module _ {A B : Type 0} {m : M A} {w v : World} {x : A} where
+  -- `x ← m`, and k
+  pub bound : (k : A → M B) {u : World} {a : Answer} {y : B} → Ends m w Ok x v → Ends (k x) v a y u → Ends (m >>= k) w a y u
+  bound k d e = record { is = bind-is m w _ (d .is) k ∙ e .is; fit = e .fit }
 
-pub ran-gave : (a : Answer) (w : World) → ran a w ≡ gave a tt w
-ran-gave Ok w = refl
-ran-gave (Error e) w = refl
-ran-gave (Stop h) w = refl
+  pub bound-ended : (k : A → M B) (y : B) {a : Answer} → Ends m w a x v → NotOk a → Ends (m >>= k) w a y v
+  bound-ended k y {a} d n = record { is = bind-is m w _ (d .is) k ∙ on-ended a x y v k n; fit = d .fit }
+
+  -- m, and k
+  pub next : {k : M B} {u : World} {a : Answer} {y : B} → Ends m w Ok x v → Ends k v a y u → Ends (m >> k) w a y u
+  next {k} d e = record { is = then-is m w _ (d .is) k ∙ e .is; fit = e .fit }
+
+  pub next-ended : (k : M B) (y : B) {a : Answer} → Ends m w a x v → NotOk a → Ends (m >> k) w a y v
+  next-ended k y {a} d n = record { is = then-is m w _ (d .is) k ∙ on-ended a x y v (λ _. k) n; fit = d .fit }
+
+-- ---- access to the store
+
+module _ {B : Type 0} {w v : World} {a : Answer} {y : B} where
+  pub got : (p f : ℕ) (k : ℕ → M B) → Ends (k (byteAt (w .store) p f)) w a y v → Ends (get p f >>= k) w a y v
+  unfolding get look _>>=_
+  got p f k e = record { is = e .is; fit = e .fit }
+
+  pub got-number : (p f n : ℕ) (k : ℕ → M B) → Ends (k (numberAt (w .store) p f n)) w a y v → Ends (getNumber p f n >>= k) w a y v
+  unfolding getNumber look _>>=_
+  got-number p f n k e = record { is = e .is; fit = e .fit }
+
+module _ {s l o : List ℕ} {at : Progress} (p f b : ℕ) (s′ : List ℕ) (e : s′ ≡ withBytes s p f (b ∷ [])) where
+  pub put-then : {B : Type 0} {k : M B} {v : World} {a : Answer} {y : B} → Ends k (here s′ l o at) a y v → Ends (put p f b >> k) (here s l o at) a y v
+  unfolding put change _>>_
+  put-then r = record { is = rw e at (r .is); fit = r .fit }
+
+  pub put-last : Fit (here s l o at) → Ends (put p f b) (here s l o at) Ok tt (here s′ l o at)
+  unfolding put change
+  put-last fit = record {
+    is = rw e refl;
+    fit = record { whole = ap length e ∙ with-length s p f (b ∷ []) ∙ fit .whole; logged = fit .logged; taken = fit .taken; counted = fit .counted };
+  }
+
+-- ---- tests
+
+module _ {B : Type 0} {w v : World} {a : Answer} {y : B} where
+  -- the test fails: go on
+  pub unless : {b : Bool} (m : M (Unit {0})) {k : M B} → b ≡ false → Ends k w a y v → Ends (when b m >> k) w a y v
+  unfolding when skip _>>_
+  unless m e r = record { is = rw e (r .is); fit = r .fit }
+
+  pub taken-if : {b : Bool} {m : M B} (n : M B) → b ≡ true → Ends m w a y v → Ends (cond b m n) w a y v
+  taken-if n e r = rw e r
+
+  pub taken-else : {b : Bool} (m : M B) {n : M B} → b ≡ false → Ends n w a y v → Ends (cond b m n) w a y v
+  taken-else m e r = rw e r
+
+-- the test holds: the function fails
+pub thrown : {B : Type 0} {w : World} {b : Bool} (e : ErrorCode) (k : M B) (y : B) → b ≡ true → Fit w → Ends (when b (throw e) >> k) w (Error e) y w
+unfolding when throw _>>_
+thrown e k y t f = record { is = rw t refl; fit = f }
+
+-- ---- ends
+
+pub skipped : {w : World} → Fit w → Ends skip w Ok tt w
+unfolding skip
+skipped f = record { is = refl; fit = f }
+
+pub returned : {A : Type 0} {w : World} (x : A) → Fit w → Ends (return x) w Ok x w
+unfolding return
+returned x f = record { is = refl; fit = f }
+
+-- ---- a failure as a value
+
+unfoldable pub NotStop : Answer → Type 0
+NotStop Ok = Unit {0}
+NotStop (Error e) = Unit {0}
+NotStop (Stop h) = ⊥
+
+-- after `if let Answer::Stop(_) = a { return .. }`
+pub not-stop : (a : Answer) → OneOf (0 ∷ 1 ∷ []) (tagOf the-type a) → NotStop a
+unfolding NotStop
+not-stop Ok t = tt
+not-stop (Error e) t = tt
+not-stop (Stop h) t = ⊎-elim (λ (e : _≡_ {A = ℕ} 2 0). omega arith) (λ (e : _≡_ {A = ℕ} 2 1). omega arith) t
+
+caught-is : (a : Answer) (w : World) → NotStop a → caught (gave a tt w) ≡ done a w
+unfolding NotStop
+caught-is Ok w n = refl
+caught-is (Error e) w n = refl
+caught-is (Stop h) w n = absurd n
+
+module _ {m : M (Unit {0})} {w v : World} {a : Answer} (r : Ends m w a tt v) where
+  pub attempted : NotStop a → Ends (attempt m) w Ok a v
+  unfolding attempt
+  attempted n = record { is = ap caught (r .is) ∙ caught-is a v n; fit = r .fit }
+
+  pub attempt-stopped : (h : Halt) → a ≡ Stop h → Ends (attempt m) w (Stop h) Ok v
+  unfolding attempt
+  attempt-stopped h e = record { is = ap caught (rw e at (r .is)); fit = r .fit }

@@ -9,7 +9,7 @@ use Rattle.usb_types.specs.declared.types.Answer.{Answer}
 use Rattle.usb_types.specs.declared.types.Answer.the-variants.{Ok, Error, Stop}
 use Rattle.usb_device.specs.Layout.{StoreLength}
 use Rattle.usb_model.specs.declared.Progress.{Progress}
-use Rattle.usb_model.specs.Programs.{Ran, done, fail, halt, ran}
+use Rattle.usb_model.specs.Programs.{Ran, done, fail, halt}
 use Rattle.usb_model.specs.World.{World, M}
 use Rattle.usb_transfer.specs.declared.log.Step.{Step}
 use Rattle.usb_transfer.specs.declared.message.Transfer.{Transfer}
@@ -30,6 +30,11 @@ gave Ok a w = done a w
 gave (Error e) a w = fail e w
 gave (Stop h) a w = halt h w
 
+-- it ran m from w, answered a, gave x where that is Ok, and left v
+pub record Ends {A : Type 0} (m : M A) (w : World) (a : Answer) (x : A) (v : World) : Type 0 where
+  pub is : m w ≡ gave a x v
+  pub fit : Fit v
+
 -- the first n data bytes of the outcome that stands at an index of the outcomes
 abbrev pub dataOf : List ℕ → ℕ → ℕ → List ℕ
 dataOf outcomes taken n = take n (drop (taken + 4) outcomes)
@@ -42,8 +47,7 @@ Given (Stop h) outcomes taken n = n ≡ 0
 
 -- it ran m from w, and gave the first n data bytes of the outcome that stood next
 pub record Gives (m : M (List ℕ)) (w : World) (a : Answer) (n : ℕ) (v : World) : Type 0 where
-  pub is : m w ≡ gave a (dataOf (w .outcomes) (w .at .taken) n) v
-  pub fit : Fit v
+  pub ends : Ends m w a (dataOf (w .outcomes) (w .at .taken) n) v
   pub given : Given a (w .outcomes) (w .at .taken) n
 
 -- ---- the log alone
@@ -54,7 +58,7 @@ pub record Room (log : List ℕ) (at : Progress) : Type 0 where
 
 -- it ran m on the log, whatever store and outcomes are
 pub record Writes (m : M (Unit {0})) (log : List ℕ) (at : Progress) (a : Answer) (log′ : List ℕ) (at′ : Progress) : Type 0 where
-  pub is : (s o : List ℕ) → m (here s log o at) ≡ ran a (here s log′ o at′)
+  pub is : (s o : List ℕ) → m (here s log o at) ≡ gave a tt (here s log′ o at′)
   pub room : Room log′ at′
   pub taken : at′ .taken ≡ at .taken
 
@@ -76,6 +80,11 @@ Receives m store outcomes at r =
     (l : List ℕ) → Fit (here (now (store .entry)) l (now (outcomes .entry)) at)
     → Gives m (here (now (store .entry)) l (now (outcomes .entry)) at) (r .step .answer) (r .len)
     (here (now (store .exit)) l (now (outcomes .entry)) (r .step .at))
+
+abbrev pub Does : M (Unit {0}) → Lent → Lent → Lent → Progress → Step → Type 0
+Does m store log outcomes at r =
+    Ends m (here (now (store .entry)) (now (log .entry)) (now (outcomes .entry)) at) (r .answer) tt
+    (here (now (store .exit)) (now (log .exit)) (now (outcomes .entry)) (r .at))
 
 abbrev pub Transfers : M (List ℕ) → Lent → Lent → Lent → Progress → Transfer → Type 0
 Transfers m store log outcomes at r =

@@ -16,8 +16,9 @@ returns-2 : tie.Need-returns-2
 returns-2 c =
     let told = c .before .before .before .before in
     let sent = told .before .before .before .before .before in
-    let fit = fit-after (sent .send-request .ensures) (sent .before .before .before .before .before .before .pre .0) in
-    message-sent _ _ _ _ _ _ _ _ _ _ (rw (told .enum-told .given .1) at (sent .send-request .ensures)) _ _ _ _ (c .before .before .receive .ensures _ fit)
+    let start = sent .before .before .before .before .before .before in
+    let wrote = rw (told .enum-told .given .1) at (sent .send-request .ensures) in
+    message-sent _ _ _ _ _ _ _ _ _ _ wrote (start .pre .0) _ _ _ _ (c .before .before .receive .ensures _ (fit-after wrote (start .pre .0)))
 
 pub usb-control-message-spec : {M : Type 1} → statement M
 usb-control-message-spec =
