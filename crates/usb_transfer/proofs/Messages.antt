@@ -20,12 +20,12 @@ use Rattle.usb_device.specs.Layout.{Number, LastTransfer}
 use Rattle.usb_device.specs.Access.{byteAt, withBytes, withNumber}
 use Rattle.usb_model.specs.declared.Progress.{Progress}
 use Rattle.usb_model.specs.declared.Buffer.{Buffer}
-use Rattle.usb_model.specs.Programs.{on, _>>=_, _>>_, return, throw, skip, look, change, succeed, when, ran}
+use Rattle.usb_model.specs.Programs.{on, _>>=_, _>>_, return, throw, look, change, succeed, ran}
 use Rattle.usb_model.specs.World.{World, get, putBytes, putNumber, logRequest}
 use Rattle.usb_model.specs.Transfer.{takeOutcome, usbControlMessage, control, read}
 use Rattle.usb_transfer.specs.declared.outcome.Header.{Header}
 use Rattle.usb_transfer.specs.declared.outcome.NextOutcome.the-variants.{Whole, Missing}
-use Rattle.usb_transfer.specs.Runs.{here, Fit, gave, dataOf, Given, Gives, Writes}
+use Rattle.usb_transfer.specs.Runs.{here, Fit, gave, dataOf, Given, Gives, Enough, Writes}
 use Rattle.usb_transfer.specs.Outcomes.{Takes}
 use Rattle.usb_transfer.specs.Parts.{pipeOf, kept, passed, handed, lengthOf, receiving}
 use Rattle.usb_transfer.proofs.Steps.{NotOk, bind-is, bound, bound-ended, next, next-ended, got, unless, thrown, returned}
@@ -139,6 +139,12 @@ controlled s l o at place request buffer a n v g = record { ends = got _ _ _ (g 
 
 pub data-length : (o : List ℕ) (t n : ℕ) → t + 4 + n ≤ length o → length (dataOf o t n) ≡ n
 data-length o t n h = omega (arith, length-take n (drop (t + 4) o), length-drop (t + 4) o)
+
+pub none-enough : (a : Answer) (minimum n : ℕ) → NotOk a → Enough a minimum n
+unfolding NotOk
+none-enough Ok minimum n x = absurd x
+none-enough (Error e) minimum n x = tt
+none-enough (Stop h) minimum n x = tt
 
 module _ (w v : World) (place : ℕ) (request : UsbDeviceRequest) (minimum : ℕ) (buffer : Buffer) (n : ℕ) where
   pub read-ended : (a : Answer) → Gives (control place request buffer) w a n v → NotOk a → Gives (read place request minimum buffer) w a n v

@@ -50,6 +50,12 @@ pub record Gives (m : M (List ℕ)) (w : World) (a : Answer) (n : ℕ) (v : Worl
   pub ends : Ends m w a (dataOf (w .outcomes) (w .at .taken) n) v
   pub given : Given a (w .outcomes) (w .at .taken) n
 
+-- a read that answers Ok has its minimum
+abbrev pub Enough : Answer → ℕ → ℕ → Type 0
+Enough Ok minimum n = minimum ≤ n
+Enough (Error e) minimum n = Unit {0}
+Enough (Stop h) minimum n = Unit {0}
+
 -- ---- the log alone
 
 pub record Room (log : List ℕ) (at : Progress) : Type 0 where

@@ -38,7 +38,7 @@ ghost use Rattle.usb_model.specs.World.{logRequest};
 ghost use Rattle.usb_model.specs.Transfer as Model;
 ghost use Rattle.usb_transfer.specs.Outcomes.{Good};
 ghost use Rattle.usb_transfer.specs.Parts.{Fits, pipeOf, kept, handed, passed, receiving};
-ghost use Rattle.usb_transfer.specs.Runs.{dataOf, Room, Ready, Logs, Receives, Transfers};
+ghost use Rattle.usb_transfer.specs.Runs.{dataOf, Enough, Room, Ready, Logs, Receives, Transfers};
 
 // What a transfer hands back: where it answered Ok, the first len data bytes of the outcome that stood next.
 pub struct Transfer {
@@ -186,7 +186,7 @@ pub fn read(
     buffer: Buffer,
 ) -> Transfer
     requires { ⌜ Ready store log outcomes at × Fits place buffer ⌝ }
-    ensures { λ r. ⌜ Transfers (Model.read place request minimum buffer) store log outcomes at r ⌝ }
+    ensures { λ r. ⌜ Transfers (Model.read place request minimum buffer) store log outcomes at r × Enough (r .step .answer) minimum (r .len) ⌝ }
 {
     let transfer = control(store, log, outcomes, at, place, request, buffer);
     let step = transfer.step;
@@ -216,7 +216,7 @@ pub fn usb_get_descriptor(
     buffer: Buffer,
 ) -> Transfer
     requires { ⌜ Ready store log outcomes at × Fits place buffer × (recipient < 128) ⌝ }
-    ensures { λ r. ⌜ Transfers (Model.usbGetDescriptor place recipient kind index size minimum buffer) store log outcomes at r ⌝ }
+    ensures { λ r. ⌜ Transfers (Model.usbGetDescriptor place recipient kind index size minimum buffer) store log outcomes at r × Enough (r .step .answer) minimum (r .len) ⌝ }
 {
     let value = (wide(kind) * 256 + wide(index)) as u16;
     let request = device_request(recipient, GET_DESCRIPTOR, value, 0, size);

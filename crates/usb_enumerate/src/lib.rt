@@ -1,0 +1,318 @@
+// usbd.rs: the device descriptor, the address, the configuration, and the place of a new device.
+use usb_device::device::ADDRESSED;
+use usb_device::device::CONFIGURED;
+use usb_device::device::DEFAULT;
+use usb_device::device::HIGH;
+use usb_device::device::LOW;
+use usb_device::device::first_unused;
+use usb_device::device::put_new_device;
+use usb_device::store::CONFIGURATION_INDEX;
+use usb_device::store::CONFIGURATION_VALUE;
+use usb_device::store::INTERFACES;
+use usb_device::store::MAX_PACKET_SIZE0;
+use usb_device::store::NUMBER;
+use usb_device::store::PLACE_LEN;
+use usb_device::store::PLACES;
+use usb_device::store::SPEED;
+use usb_device::store::STATUS;
+use usb_device::store::TOTAL_LENGTH;
+use usb_device::store::byte_at;
+use usb_device::store::set_byte;
+use usb_device::store::u16_at;
+use usb_model::Buffer;
+use usb_model::Progress;
+use usb_transfer::log::Step;
+use usb_transfer::log::micro_delay;
+use usb_transfer::message::Transfer;
+use usb_transfer::message::control;
+use usb_transfer::message::usb_control_message;
+use usb_transfer::message::usb_get_descriptor;
+use usb_transfer::outcome::delivered;
+use usb_types::request::DEVICE;
+use usb_types::request::SET_ADDRESS;
+use usb_types::request::SET_CONFIGURATION;
+use usb_types::request::device_request;
+use usb_types::types::Answer;
+use usb_types::types::ErrorCode;
+use usb_walk::RECORD_LEN;
+use usb_walk::walk;
+ghost use mathlib.Core.Path.{_≡_};
+ghost use Prim.Native.Nat.{_≤_, _<_};
+ghost use lib.ListN.{length};
+ghost use Rattle.usb_device.specs.Layout.{Places, StoreLength};
+ghost use Rattle.usb_model.specs.Usbd as Model;
+ghost use Rattle.usb_transfer.specs.Runs.{Ready, Does, Transfers};
+ghost use Rattle.usb_enumerate.specs.Parts.{firstSize, readHead, readFull, walkFull, configureWith, Counts, Walks, Allocates};
+
+// A read of the device descriptor: how many bytes came.
+fn read_device_descriptor(
+    store: &mut [u8],
+    log: &mut [u8],
+    outcomes: &[u8],
+    at: Progress,
+    place: usize,
+    minimum: u16,
+) -> Transfer
+    requires { ⌜ Ready store log outcomes at × (place < Places) ⌝ }
+    ensures { λ r. ⌜ Counts (Model.readDeviceDescriptor place minimum) store log outcomes at r ⌝ }
+{
+    let buffer = Buffer {
+        field: usb_device::store::DEVICE_DESCRIPTOR,
+        room: 18,
+    };
+    usb_get_descriptor(
+        store,
+        log,
+        outcomes,
+        at,
+        place,
+        DEVICE,
+        usb_types::descriptors::DEVICE_DESCRIPTOR,
+        0,
+        18,
+        minimum,
+        buffer,
+    )
+}
+
+// The packet size that is assumed before the descriptor is read.
+fn first_size(speed: u8) -> u8
+    ensures { λ r. ⌜ r ≡ firstSize speed ⌝ }
+{
+    if speed == LOW { 8 } else { 64 }
+}
+
+pub fn usb_read_device_descriptor(
+    store: &mut [u8],
+    log: &mut [u8],
+    outcomes: &[u8],
+    at: Progress,
+    place: usize,
+) -> Step
+    requires { ⌜ Ready store log outcomes at × (place < Places) ⌝ }
+    ensures { λ r. ⌜ Does (Model.usbReadDeviceDescriptor place) store log outcomes at r ⌝ }
+{
+    let speed = byte_at(store, place, SPEED);
+    set_byte(store, place, MAX_PACKET_SIZE0, first_size(speed));
+    if speed == HIGH {
+        let read = read_device_descriptor(store, log, outcomes, at, place, 18);
+        return read.step;
+    }
+    let first = read_device_descriptor(store, log, outcomes, at, place, 8);
+    let step = first.step;
+    let answer = step.answer;
+    let Answer::Ok = answer else {
+        return step;
+    };
+    if first.len == 18 {
+        return step;
+    }
+    let next = step.at;
+    let second = read_device_descriptor(store, log, outcomes, next, place, 18);
+    second.step
+}
+
+pub fn usb_set_address(
+    store: &mut [u8],
+    log: &mut [u8],
+    outcomes: &[u8],
+    at: Progress,
+    place: usize,
+    address: u8,
+) -> Step
+    requires { ⌜ Ready store log outcomes at × (place < Places) ⌝ }
+    ensures { λ r. ⌜ Does (Model.usbSetAddress place address) store log outcomes at r ⌝ }
+{
+    if byte_at(store, place, STATUS) != DEFAULT {
+        return Step {
+            answer: Answer::Error(ErrorCode::Device),
+            at,
+        };
+    }
+    let request = device_request(DEVICE, SET_ADDRESS, address as u16, 0, 0);
+    let nowhere = Buffer { field: 0, room: 0 };
+    let sent = usb_control_message(store, log, outcomes, at, place, 0, request, nowhere);
+    let step = sent.step;
+    let answer = step.answer;
+    let Answer::Ok = answer else {
+        return step;
+    };
+    let next = step.at;
+    let waited = micro_delay(log, next, 10000);
+    let answer = waited.answer;
+    let Answer::Ok = answer else {
+        return waited;
+    };
+    set_byte(store, place, NUMBER, address);
+    set_byte(store, place, STATUS, ADDRESSED);
+    waited
+}
+
+pub fn usb_set_configure(
+    store: &mut [u8],
+    log: &mut [u8],
+    outcomes: &[u8],
+    at: Progress,
+    place: usize,
+    configuration: u8,
+) -> Step
+    requires { ⌜ Ready store log outcomes at × (place < Places) ⌝ }
+    ensures { λ r. ⌜ Does (Model.usbSetConfigure place configuration) store log outcomes at r ⌝ }
+{
+    if byte_at(store, place, STATUS) != ADDRESSED {
+        return Step {
+            answer: Answer::Error(ErrorCode::Device),
+            at,
+        };
+    }
+    let request = device_request(DEVICE, SET_CONFIGURATION, configuration as u16, 0, 0);
+    let nowhere = Buffer { field: 0, room: 0 };
+    let sent = control(store, log, outcomes, at, place, request, nowhere);
+    let step = sent.step;
+    let answer = step.answer;
+    let Answer::Ok = answer else {
+        return step;
+    };
+    set_byte(store, place, CONFIGURATION_INDEX, configuration);
+    set_byte(store, place, STATUS, CONFIGURED);
+    step
+}
+
+// The configuration descriptor, into the device.
+fn read_configuration(
+    store: &mut [u8],
+    log: &mut [u8],
+    outcomes: &[u8],
+    at: Progress,
+    place: usize,
+    configuration: u8,
+) -> Transfer
+    requires { ⌜ Ready store log outcomes at × (place < Places) ⌝ }
+    ensures { λ r. ⌜ Transfers (readHead place configuration) store log outcomes at r ⌝ }
+{
+    let buffer = Buffer {
+        field: usb_device::store::CONFIGURATION_DESCRIPTOR,
+        room: 9,
+    };
+    usb_get_descriptor(
+        store,
+        log,
+        outcomes,
+        at,
+        place,
+        DEVICE,
+        usb_types::descriptors::CONFIGURATION_DESCRIPTOR,
+        configuration,
+        9,
+        9,
+        buffer,
+    )
+}
+
+// All bytes of the configuration, which are handed back and not stored.
+fn read_full(
+    store: &mut [u8],
+    log: &mut [u8],
+    outcomes: &[u8],
+    at: Progress,
+    place: usize,
+    configuration: u8,
+) -> Transfer
+    requires { ⌜ Ready store log outcomes at × (place < Places) ⌝ }
+    ensures { λ r. ⌜ Transfers (readFull place configuration) store log outcomes at r ⌝ }
+{
+    let total = u16_at(store, place, TOTAL_LENGTH);
+    let nowhere = Buffer { field: 0, room: 0 };
+    usb_get_descriptor(
+        store,
+        log,
+        outcomes,
+        at,
+        place,
+        DEVICE,
+        usb_types::descriptors::CONFIGURATION_DESCRIPTOR,
+        configuration,
+        total,
+        total,
+        nowhere,
+    )
+}
+
+// The walk over a configuration, into the device's record of interfaces and endpoints.
+fn walk_full(store: &mut [u8], place: usize, configuration: u8, full: &[u8]) -> Answer
+    requires { ⌜ (length (now store) ≡ StoreLength) × (place < Places) ⌝ }
+    ensures { λ r. ⌜ Walks (walkFull place configuration (now (full .entry))) store r ⌝ }
+{
+    set_byte(store, place, CONFIGURATION_INDEX, configuration);
+    let start = place * PLACE_LEN + INTERFACES;
+    let end = start + RECORD_LEN;
+    walk(full, &mut store[start..end])
+}
+
+// What follows the full configuration: the walk over it, and SetConfiguration with the stored value.
+fn configure_with(
+    store: &mut [u8],
+    log: &mut [u8],
+    outcomes: &[u8],
+    at: Progress,
+    place: usize,
+    configuration: u8,
+    full: &[u8],
+) -> Step
+    requires { ⌜ Ready store log outcomes at × (place < Places) ⌝ }
+    ensures { λ r. ⌜ Does (configureWith place configuration (now (full .entry))) store log outcomes at r ⌝ }
+{
+    let answer = walk_full(store, place, configuration, full);
+    let Answer::Ok = answer else {
+        return Step { answer, at };
+    };
+    let value = byte_at(store, place, CONFIGURATION_VALUE);
+    usb_set_configure(store, log, outcomes, at, place, value)
+}
+
+pub fn usb_configure(
+    store: &mut [u8],
+    log: &mut [u8],
+    outcomes: &[u8],
+    at: Progress,
+    place: usize,
+    configuration: u8,
+) -> Step
+    requires { ⌜ Ready store log outcomes at × (place < Places) ⌝ }
+    ensures { λ r. ⌜ Does (Model.usbConfigure place configuration) store log outcomes at r ⌝ }
+{
+    if byte_at(store, place, STATUS) != ADDRESSED {
+        return Step {
+            answer: Answer::Error(ErrorCode::Device),
+            at,
+        };
+    }
+    let head = read_configuration(store, log, outcomes, at, place, configuration);
+    let step = head.step;
+    let answer = step.answer;
+    let Answer::Ok = answer else {
+        return step;
+    };
+    let next = step.at;
+    let transfer = read_full(store, log, outcomes, next, place, configuration);
+    let step = transfer.step;
+    let answer = step.answer;
+    let Answer::Ok = answer else {
+        return step;
+    };
+    let full = delivered(outcomes, next.taken, transfer.len);
+    let last = step.at;
+    configure_with(store, log, outcomes, last, place, configuration, full)
+}
+
+// The first place that is not used gets a new device; 32 where all are used.
+pub fn usb_allocate_device(store: &mut [u8]) -> usize
+    requires { ⌜ length (now store) ≡ StoreLength ⌝ }
+    ensures { λ r. ⌜ Allocates store r × (r ≤ Places) ⌝ }
+{
+    let place = first_unused(store);
+    if place < PLACES {
+        put_new_device(store, place);
+    }
+    place
+}

@@ -1,0 +1,282 @@
+// The requests to a hub and to its ports.
+use usb_device::store::HUB_STATUS;
+use usb_device::store::MAX_CHILDREN;
+use usb_device::store::PORT_STATUS;
+use usb_device::store::POWER_GOOD_DELAY;
+use usb_device::store::byte_at;
+use usb_device::store::set_byte;
+use usb_device::store::set_bytes;
+use usb_model::Buffer;
+use usb_model::Progress;
+use usb_transfer::log::Step;
+use usb_transfer::log::micro_delay;
+use usb_transfer::message::control;
+use usb_transfer::message::read;
+use usb_transfer::message::usb_get_descriptor;
+use usb_transfer::outcome::delivered;
+use usb_types::request::CLEAR_FEATURE;
+use usb_types::request::GET_STATUS;
+use usb_types::request::HUB;
+use usb_types::request::PORT;
+use usb_types::request::SET_FEATURE;
+use usb_types::request::UsbDeviceRequest;
+use usb_types::request::device_request;
+use usb_types::types::Answer;
+use usb_types::types::wide;
+ghost use mathlib.Core.Path.{_≡_};
+ghost use Prim.Native.Nat.{_≤_, _<_};
+ghost use lib.ListN.{length};
+ghost use Rattle.usb_device.specs.Layout.{Places, StoreLength};
+ghost use Rattle.usb_model.specs.Hub as Model;
+ghost use Rattle.usb_transfer.specs.Runs.{Ready, Does};
+ghost use Rattle.usb_hub.specs.Parts.{ignored, featureRequest, powerDelay, powerPorts, readRest, withBlank};
+
+// Feature selectors, USB 2.0 table 11-17.
+pub const PORT_SUSPEND: u16 = 2;
+
+pub const PORT_OVER_CURRENT: u16 = 3;
+
+pub const PORT_RESET: u16 = 4;
+
+pub const PORT_POWER: u16 = 8;
+
+pub const C_PORT_CONNECTION: u16 = 16;
+
+pub const C_PORT_ENABLE: u16 = 17;
+
+pub const C_PORT_RESET: u16 = 20;
+
+// The hub byte: hub data without descriptor, with.
+pub const WITHOUT_DESCRIPTOR: u8 = 1;
+
+pub const WITH_DESCRIPTOR: u8 = 2;
+
+// A call whose result the Rust does not look at: only a stop goes on upward.
+pub fn ignore(step: Step) -> Step
+    ensures { λ r. ⌜ r ≡ ignored step ⌝ }
+{
+    let answer = step.answer;
+    if let Answer::Stop(_) = answer {
+        return step;
+    }
+    let at = step.at;
+    Step {
+        answer: Answer::Ok,
+        at,
+    }
+}
+
+pub fn hub_get_status(
+    store: &mut [u8],
+    log: &mut [u8],
+    outcomes: &[u8],
+    at: Progress,
+    hub: usize,
+) -> Step
+    requires { ⌜ Ready store log outcomes at × (hub < Places) ⌝ }
+    ensures { λ r. ⌜ Does (Model.hubGetStatus hub) store log outcomes at r ⌝ }
+{
+    let request = device_request(HUB, GET_STATUS, 0, 0, 4);
+    let buffer = Buffer {
+        field: HUB_STATUS,
+        room: 4,
+    };
+    let transfer = read(store, log, outcomes, at, hub, request, 4, buffer);
+    transfer.step
+}
+
+fn feature_request(feature: u16, port: usize, set: bool) -> UsbDeviceRequest
+    requires { ⌜ port < 256 ⌝ }
+    ensures { λ r. ⌜ r ≡ featureRequest feature port set ⌝ }
+{
+    let index = (port + 1) as u16;
+    if set {
+        return device_request(PORT, SET_FEATURE, feature, index, 0);
+    }
+    device_request(PORT, CLEAR_FEATURE, feature, index, 0)
+}
+
+pub fn hub_change_port_feature(
+    store: &mut [u8],
+    log: &mut [u8],
+    outcomes: &[u8],
+    at: Progress,
+    hub: usize,
+    feature: u16,
+    port: usize,
+    set: bool,
+) -> Step
+    requires { ⌜ Ready store log outcomes at × (hub < Places) × (port < 256) ⌝ }
+    ensures { λ r. ⌜ Does (Model.hubChangePortFeature hub feature port set) store log outcomes at r ⌝ }
+{
+    let request = feature_request(feature, port, set);
+    let nowhere = Buffer { field: 0, room: 0 };
+    let transfer = control(store, log, outcomes, at, hub, request, nowhere);
+    transfer.step
+}
+
+pub fn hub_port_get_status(
+    store: &mut [u8],
+    log: &mut [u8],
+    outcomes: &[u8],
+    at: Progress,
+    hub: usize,
+    port: usize,
+) -> Step
+    requires { ⌜ Ready store log outcomes at × (hub < Places) × (port < 10) ⌝ }
+    ensures { λ r. ⌜ Does (Model.hubPortGetStatus hub port) store log outcomes at r ⌝ }
+{
+    let request = device_request(PORT, GET_STATUS, 0, (port + 1) as u16, 4);
+    let buffer = Buffer {
+        field: PORT_STATUS + 4 * port,
+        room: 4,
+    };
+    let transfer = read(store, log, outcomes, at, hub, request, 4, buffer);
+    transfer.step
+}
+
+// Powers the first count ports, whatever comes of each.
+fn power_ports(
+    store: &mut [u8],
+    log: &mut [u8],
+    outcomes: &[u8],
+    at: Progress,
+    hub: usize,
+    count: usize,
+) -> Step
+    requires { ⌜ Ready store log outcomes at × (hub < Places) × (count ≤ 256) ⌝ }
+    ensures { λ r. ⌜ Does (powerPorts hub count) store log outcomes at r ⌝ }
+{
+    let mut progress = at;
+    let mut port = 0;
+    while port < count {
+        let step = ignore(hub_change_port_feature(
+            store,
+            log,
+            outcomes,
+            progress,
+            hub,
+            PORT_POWER,
+            port,
+            true,
+        ));
+        let answer = step.answer;
+        let Answer::Ok = answer else {
+            return step;
+        };
+        progress = step.at;
+        port += 1;
+    }
+    Step {
+        answer: Answer::Ok,
+        at: progress,
+    }
+}
+
+// bPwrOn2PwrGood counts 2 ms; where it is 0, 100 ms are waited.
+fn power_delay(count: u8) -> u32
+    ensures { λ r. ⌜ r ≡ powerDelay count ⌝ }
+{
+    if count == 0 {
+        return 100000;
+    }
+    (wide(count) * 2000) as u32
+}
+
+pub fn hub_power_on(
+    store: &mut [u8],
+    log: &mut [u8],
+    outcomes: &[u8],
+    at: Progress,
+    hub: usize,
+) -> Step
+    requires { ⌜ Ready store log outcomes at × (hub < Places) ⌝ }
+    ensures { λ r. ⌜ Does (Model.hubPowerOn hub) store log outcomes at r ⌝ }
+{
+    if byte_at(store, hub, usb_device::store::HUB) != WITH_DESCRIPTOR {
+        return Step {
+            answer: Answer::Ok,
+            at,
+        };
+    }
+    let count = wide(byte_at(store, hub, MAX_CHILDREN));
+    let delay = power_delay(byte_at(store, hub, POWER_GOOD_DELAY));
+    let powered = power_ports(store, log, outcomes, at, hub, count);
+    let answer = powered.answer;
+    let Answer::Ok = answer else {
+        return powered;
+    };
+    let next = powered.at;
+    micro_delay(log, next, delay)
+}
+
+// A hub without descriptor gets one by Default.
+fn put_blank(store: &mut [u8], hub: usize)
+    requires { ⌜ (length (now store) ≡ StoreLength) × (hub < Places) ⌝ }
+    ensures { λ _. ⌜ now (store .exit) ≡ withBlank (now (store .entry)) hub ⌝ }
+{
+    if byte_at(store, hub, usb_device::store::HUB) == WITHOUT_DESCRIPTOR {
+        set_byte(store, hub, usb_device::store::HUB, WITH_DESCRIPTOR);
+        let blank = [0, 1, 0, 0, 0, 0, 0, 0, 0];
+        set_bytes(store, hub, usb_device::store::HUB_DESCRIPTOR, &blank);
+    }
+}
+
+// The hub descriptor, as long as its first byte says; 9 bytes are kept.
+fn read_rest(
+    store: &mut [u8],
+    log: &mut [u8],
+    outcomes: &[u8],
+    at: Progress,
+    hub: usize,
+    size: u8,
+) -> Step
+    requires { ⌜ Ready store log outcomes at × (hub < Places) ⌝ }
+    ensures { λ r. ⌜ Does (readRest hub size) store log outcomes at r ⌝ }
+{
+    let buffer = Buffer {
+        field: usb_device::store::HUB_DESCRIPTOR,
+        room: 9,
+    };
+    let kind = usb_types::descriptors::HUB_DESCRIPTOR;
+    let asked = size as u16;
+    let transfer = usb_get_descriptor(
+        store,
+        log,
+        outcomes,
+        at,
+        hub,
+        HUB,
+        kind,
+        0,
+        asked,
+        asked,
+        buffer,
+    );
+    transfer.step
+}
+
+pub fn hub_read_descriptor(
+    store: &mut [u8],
+    log: &mut [u8],
+    outcomes: &[u8],
+    at: Progress,
+    hub: usize,
+) -> Step
+    requires { ⌜ Ready store log outcomes at × (hub < Places) ⌝ }
+    ensures { λ r. ⌜ Does (Model.hubReadDescriptor hub) store log outcomes at r ⌝ }
+{
+    let kind = usb_types::descriptors::HUB_DESCRIPTOR;
+    let nowhere = Buffer { field: 0, room: 0 };
+    let transfer = usb_get_descriptor(store, log, outcomes, at, hub, HUB, kind, 0, 2, 2, nowhere);
+    let step = transfer.step;
+    let answer = step.answer;
+    let Answer::Ok = answer else {
+        return step;
+    };
+    let header = delivered(outcomes, at.taken, transfer.len);
+    let size = header[0];
+    put_blank(store, hub);
+    let next = step.at;
+    read_rest(store, log, outcomes, next, hub, size)
+}

@@ -1,0 +1,396 @@
+// device/hub.rs: the resets of a port, and the port at which a child stands.
+use usb_device::hub::load_hub;
+use usb_device::store::CHILDREN;
+use usb_device::store::MAX_CHILDREN;
+use usb_device::store::PARENT;
+use usb_device::store::PORT_NUMBER;
+use usb_device::store::byte_at;
+use usb_hub::ports::has;
+use usb_hub::ports::status_of;
+use usb_hub::requests::C_PORT_RESET;
+use usb_hub::requests::PORT_RESET;
+use usb_hub::requests::hub_change_port_feature;
+use usb_hub::requests::hub_port_get_status;
+use usb_hub::requests::ignore;
+use usb_model::Progress;
+use usb_transfer::log::Step;
+use usb_transfer::log::micro_delay;
+use usb_types::types::Answer;
+use usb_types::types::ErrorCode;
+use usb_types::types::wide;
+ghost use mathlib.Core.Path.{_≡_};
+ghost use Prim.Native.Nat.{_≤_, _<_};
+ghost use lib.ListN.{length};
+ghost use Rattle.usb_device.specs.Layout.{Places, StoreLength, PortStatus, MaxChildren};
+ghost use Rattle.usb_device.specs.Access.{byteAt, numberAt};
+ghost use Rattle.usb_model.specs.Hub as Model;
+ghost use Rattle.usb_transfer.specs.Runs.{Ready, Does};
+ghost use Rattle.usb_port.specs.Parts.{Sees, Finds, resetOrEnabled, isLost, delayedStatus, resetPort, tryReset};
+
+// The reads of a status: was it seen what they wait for? False where the answer is not Ok.
+pub struct Awaited {
+    pub step: Step,
+    pub seen: bool,
+}
+
+// The port of a child, if it stands at one of this hub.
+pub enum ChildPort {
+    At(usize),
+    Nowhere,
+}
+
+pub fn port_status(store: &[u8], hub: usize, port: usize) -> u32
+    requires { ⌜ (length (now store) ≡ StoreLength) × (hub < Places) × (port < 10) ⌝ }
+    ensures { λ r. ⌜ r ≡ numberAt (now (store .entry)) hub (PortStatus port) 4 ⌝ }
+{
+    status_of(load_hub(store, hub), port)
+}
+
+// A wait, and a read of the port's status.
+fn delayed_status(
+    store: &mut [u8],
+    log: &mut [u8],
+    outcomes: &[u8],
+    at: Progress,
+    hub: usize,
+    port: usize,
+    microseconds: u32,
+) -> Step
+    requires { ⌜ Ready store log outcomes at × (hub < Places) × (port < 10) ⌝ }
+    ensures { λ r. ⌜ Does (delayedStatus hub port microseconds) store log outcomes at r ⌝ }
+{
+    let waited = micro_delay(log, at, microseconds);
+    let answer = waited.answer;
+    let Answer::Ok = answer else {
+        return waited;
+    };
+    let next = waited.at;
+    hub_port_get_status(store, log, outcomes, next, hub, port)
+}
+
+// At most 21 reads, until one shows the reset change.
+fn await_reset(
+    store: &mut [u8],
+    log: &mut [u8],
+    outcomes: &[u8],
+    at: Progress,
+    hub: usize,
+    port: usize,
+) -> Awaited
+    requires { ⌜ Ready store log outcomes at × (hub < Places) × (port < 10) ⌝ }
+    ensures { λ r. ⌜ Sees (Model.awaitReset 21 hub port) store log outcomes at r ⌝ }
+{
+    let mut progress = at;
+    let mut left: usize = 21;
+    while 0 < left {
+        let read = delayed_status(store, log, outcomes, progress, hub, port, 50000);
+        let answer = read.answer;
+        let Answer::Ok = answer else {
+            return Awaited {
+                step: read,
+                seen: false,
+            };
+        };
+        progress = read.at;
+        if has(port_status(store, hub, port), usb_hub::ports::C_PORT_RESET) {
+            return Awaited {
+                step: read,
+                seen: true,
+            };
+        }
+        left -= 1;
+    }
+    let step = Step {
+        answer: Answer::Ok,
+        at: progress,
+    };
+    Awaited { step, seen: false }
+}
+
+pub fn hub_port_reset2(
+    store: &mut [u8],
+    log: &mut [u8],
+    outcomes: &[u8],
+    at: Progress,
+    hub: usize,
+    port: usize,
+) -> Step
+    requires { ⌜ Ready store log outcomes at × (hub < Places) × (port < 10) ⌝ }
+    ensures { λ r. ⌜ Does (Model.hubPortReset2 hub port) store log outcomes at r ⌝ }
+{
+    let reset = reset_port(store, log, outcomes, at, hub, port);
+    let answer = reset.answer;
+    let Answer::Ok = answer else {
+        return reset;
+    };
+    let reset_at = reset.at;
+    let reads = await_reset(store, log, outcomes, reset_at, hub, port);
+    let step = reads.step;
+    let answer = step.answer;
+    let Answer::Ok = answer else {
+        return step;
+    };
+    let reads_at = step.at;
+    let last = hub_change_port_feature(
+        store,
+        log,
+        outcomes,
+        reads_at,
+        hub,
+        C_PORT_RESET,
+        port,
+        false,
+    );
+    let answer = last.answer;
+    let Answer::Ok = answer else {
+        return last;
+    };
+    let last_at = last.at;
+    if reads.seen {
+        return micro_delay(log, last_at, 10000);
+    }
+    Step {
+        answer: Answer::Error(ErrorCode::Timeout),
+        at: last_at,
+    }
+}
+
+// The change is cleared, whatever comes of it, and the port is reset.
+fn reset_port(
+    store: &mut [u8],
+    log: &mut [u8],
+    outcomes: &[u8],
+    at: Progress,
+    hub: usize,
+    port: usize,
+) -> Step
+    requires { ⌜ Ready store log outcomes at × (hub < Places) × (port < 10) ⌝ }
+    ensures { λ r. ⌜ Does (resetPort hub port) store log outcomes at r ⌝ }
+{
+    let cleared = ignore(hub_change_port_feature(
+        store,
+        log,
+        outcomes,
+        at,
+        hub,
+        C_PORT_RESET,
+        port,
+        false,
+    ));
+    let answer = cleared.answer;
+    let Answer::Ok = answer else {
+        return cleared;
+    };
+    let next = cleared.at;
+    hub_change_port_feature(store, log, outcomes, next, hub, PORT_RESET, port, true)
+}
+
+fn reset_or_enabled(status: u32) -> bool
+    ensures { λ r. ⌜ r ≡ resetOrEnabled status ⌝ }
+{
+    if has(status, usb_hub::ports::C_PORT_RESET) {
+        return true;
+    }
+    has(status, usb_hub::ports::PORT_ENABLE)
+}
+
+// At most ten reads, until one shows the reset change or an enabled port; one seen in the tenth counts as not seen.
+fn await_enabled(
+    store: &mut [u8],
+    log: &mut [u8],
+    outcomes: &[u8],
+    at: Progress,
+    hub: usize,
+    port: usize,
+) -> Awaited
+    requires { ⌜ Ready store log outcomes at × (hub < Places) × (port < 10) ⌝ }
+    ensures { λ r. ⌜ Sees (Model.awaitEnabled 10 hub port) store log outcomes at r ⌝ }
+{
+    let mut progress = at;
+    let mut left: usize = 10;
+    while 0 < left {
+        let read = delayed_status(store, log, outcomes, progress, hub, port, 20000);
+        let answer = read.answer;
+        let Answer::Ok = answer else {
+            return Awaited {
+                step: read,
+                seen: false,
+            };
+        };
+        progress = read.at;
+        left -= 1;
+        if reset_or_enabled(port_status(store, hub, port)) {
+            return Awaited {
+                step: read,
+                seen: left != 0,
+            };
+        }
+    }
+    let step = Step {
+        answer: Answer::Ok,
+        at: progress,
+    };
+    Awaited { step, seen: false }
+}
+
+// The device is gone, or another came.
+fn lost(status: u32) -> bool
+    ensures { λ r. ⌜ r ≡ isLost status ⌝ }
+{
+    if has(status, usb_hub::ports::C_PORT_CONNECTION) {
+        return true;
+    }
+    !has(status, usb_hub::ports::PORT_CONNECTION)
+}
+
+// One try of HubPortReset: was the port seen enabled?
+fn try_reset(
+    store: &mut [u8],
+    log: &mut [u8],
+    outcomes: &[u8],
+    at: Progress,
+    hub: usize,
+    port: usize,
+) -> Awaited
+    requires { ⌜ Ready store log outcomes at × (hub < Places) × (port < 10) ⌝ }
+    ensures { λ r. ⌜ Sees (tryReset hub port) store log outcomes at r ⌝ }
+{
+    let reset = hub_change_port_feature(store, log, outcomes, at, hub, PORT_RESET, port, true);
+    let answer = reset.answer;
+    let Answer::Ok = answer else {
+        return Awaited {
+            step: reset,
+            seen: false,
+        };
+    };
+    let next = reset.at;
+    let reads = await_enabled(store, log, outcomes, next, hub, port);
+    let step = reads.step;
+    let answer = step.answer;
+    let Answer::Ok = answer else {
+        return reads;
+    };
+    let status = port_status(store, hub, port);
+    if reads.seen {
+        if lost(status) {
+            let at = step.at;
+            let step = Step {
+                answer: Answer::Error(ErrorCode::Device),
+                at,
+            };
+            return Awaited { step, seen: false };
+        }
+        return Awaited {
+            step,
+            seen: has(status, usb_hub::ports::PORT_ENABLE),
+        };
+    }
+    reads
+}
+
+// At most three tries.
+fn reset_tries(
+    store: &mut [u8],
+    log: &mut [u8],
+    outcomes: &[u8],
+    at: Progress,
+    hub: usize,
+    port: usize,
+) -> Step
+    requires { ⌜ Ready store log outcomes at × (hub < Places) × (port < 10) ⌝ }
+    ensures { λ r. ⌜ Does (Model.resetTries 3 hub port) store log outcomes at r ⌝ }
+{
+    let mut progress = at;
+    let mut left: usize = 3;
+    while 0 < left {
+        let tried = try_reset(store, log, outcomes, progress, hub, port);
+        let step = tried.step;
+        let answer = step.answer;
+        let Answer::Ok = answer else {
+            return step;
+        };
+        if tried.seen {
+            return step;
+        }
+        progress = step.at;
+        left -= 1;
+    }
+    Step {
+        answer: Answer::Ok,
+        at: progress,
+    }
+}
+
+pub fn hub_port_reset(
+    store: &mut [u8],
+    log: &mut [u8],
+    outcomes: &[u8],
+    at: Progress,
+    hub: usize,
+    port: usize,
+) -> Step
+    requires { ⌜ Ready store log outcomes at × (hub < Places) × (port < 10) ⌝ }
+    ensures { λ r. ⌜ Does (Model.hubPortReset hub port) store log outcomes at r ⌝ }
+{
+    let tried = reset_tries(store, log, outcomes, at, hub, port);
+    let answer = tried.answer;
+    let Answer::Ok = answer else {
+        return tried;
+    };
+    let next = tried.at;
+    let first = ignore(hub_change_port_feature(
+        store,
+        log,
+        outcomes,
+        next,
+        hub,
+        PORT_RESET,
+        port,
+        false,
+    ));
+    let answer = first.answer;
+    let Answer::Ok = answer else {
+        return first;
+    };
+    let last = first.at;
+    ignore(hub_change_port_feature(store, log, outcomes, last, hub, C_PORT_RESET, port, false))
+}
+
+// The port counted from 0 is tested against MaxChildren.
+pub fn port_of_child(store: &[u8], hub: usize, child: usize) -> ChildPort
+    requires { ⌜ (length (now store) ≡ StoreLength) × (hub < Places) × (child < Places) × (byteAt (now store) hub MaxChildren ≤ 10) ⌝ }
+    ensures { λ r. ⌜ Finds hub child (now (store .entry)) r ⌝ }
+{
+    if wide(byte_at(store, child, PARENT)) != hub + 1 {
+        return ChildPort::Nowhere;
+    }
+    let port = wide(byte_at(store, child, PORT_NUMBER));
+    if port >= wide(byte_at(store, hub, MAX_CHILDREN)) {
+        return ChildPort::Nowhere;
+    }
+    if wide(byte_at(store, hub, CHILDREN + port)) != child + 1 {
+        return ChildPort::Nowhere;
+    }
+    ChildPort::At(port)
+}
+
+pub fn hub_child_reset(
+    store: &mut [u8],
+    log: &mut [u8],
+    outcomes: &[u8],
+    at: Progress,
+    hub: usize,
+    child: usize,
+) -> Step
+    requires { ⌜ Ready store log outcomes at × (hub < Places) × (child < Places) × (byteAt (now store) hub MaxChildren ≤ 10) ⌝ }
+    ensures { λ r. ⌜ Does (Model.hubChildReset hub child) store log outcomes at r ⌝ }
+{
+    let found = port_of_child(store, hub, child);
+    match found {
+        ChildPort::Nowhere => Step {
+            answer: Answer::Error(ErrorCode::Argument),
+            at,
+        },
+        ChildPort::At(port) => hub_port_reset2(store, log, outcomes, at, hub, port),
+    }
+}
