@@ -12,7 +12,7 @@ use lib.Seq.{drop-drop}
 use Rattle.usb_types.specs.declared.types.ErrorCode.the-variants.{Device}
 use Rattle.usb_types.specs.declared.types.Answer.{Answer}
 use Rattle.usb_types.specs.declared.types.Answer.the-variants.{Ok, Error, Stop}
-use Rattle.usb_device.specs.Layout.{Places, StoreLength, Status, ConfigurationIndex, Interfaces}
+use Rattle.usb_device.specs.Layout.{Places, StoreLength, Status, ConfigurationIndex, TotalLength, Interfaces}
 use Rattle.usb_device.specs.Access.{write, offset, bytesAt, withBytes}
 use Rattle.usb_device.specs.Device.{Addressed, newDevice, firstUnused}
 use Rattle.usb_model.specs.declared.Progress.{Progress}
@@ -24,7 +24,7 @@ use Rattle.usb_walk.specs.Steps.{endsWith}
 use Rattle.usb_transfer.specs.Runs.{here, Fit, Ends, dataOf, Gives}
 use Rattle.usb_transfer.proofs.Steps.{NotOk, bound, bound-ended, looked, got-bytes-as, put-then, put-bytes-then, put-bytes-fit, unless, thrown, succeeded, returned}
 use Rattle.usb_transfer.proofs.Messages.{data-length}
-use Rattle.usb_enumerate.specs.Parts.{readHead, readFull, walkFull, configureWith, Counted, placed}
+use Rattle.usb_enumerate.specs.Parts.{readHead, walkFull, configureWith, configureFull, Counted, placed}
 
 -- a read of which only the number of bytes is given
 pub counted : (m : M (List ℕ)) (w v : World) (a : Answer) (n : ℕ) → Gives m w a n v → Counted (m >>= (λ bytes. return (length bytes))) w a n v
@@ -102,11 +102,11 @@ inParts place configuration = do
   status ← get place Status
   when (not (eqb status Addressed)) (throw Device)
   readHead place configuration
-  full ← readFull place configuration
-  configureWith place configuration full
+  total ← getNumber place TotalLength 2
+  configureFull place configuration total
 
 same-run : (place configuration : ℕ) (w : World) → usbConfigure place configuration w ≡ inParts place configuration w
-unfolding usbConfigure inParts readHead readFull configureWith walkFull get getNumber getBytes put putBytes look change succeed _>>=_ _>>_
+unfolding usbConfigure inParts readHead configureFull configureWith walkFull get getNumber getBytes put putBytes look change succeed _>>=_ _>>_
 same-run place configuration w = refl
 
 pub in-parts : (place configuration : ℕ) {w v : World} {a : Answer} → Ends (inParts place configuration) w a tt v → Ends (usbConfigure place configuration) w a tt v

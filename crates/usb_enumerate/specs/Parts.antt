@@ -9,11 +9,11 @@ use Rattle.usb_types.specs.Descriptors as Descriptors
 use Rattle.usb_types.specs.declared.types.ErrorCode.the-variants.{BusFull}
 use Rattle.usb_types.specs.declared.types.Answer.{Answer}
 use Rattle.usb_types.specs.declared.types.Answer.the-variants.{Ok, Error}
-use Rattle.usb_device.specs.Layout.{Places, ConfigurationIndex, ConfigurationDescriptor, TotalLength, ConfigurationValue, Interfaces}
+use Rattle.usb_device.specs.Layout.{Places, ConfigurationIndex, ConfigurationDescriptor, ConfigurationValue, Interfaces}
 use Rattle.usb_device.specs.Device.{Low}
 use Rattle.usb_model.specs.declared.Progress.{Progress}
 use Rattle.usb_model.specs.Programs.{_>>=_, _>>_, succeed}
-use Rattle.usb_model.specs.World.{World, M, get, getBytes, getNumber, put, putBytes}
+use Rattle.usb_model.specs.World.{World, M, get, getBytes, put, putBytes}
 use Rattle.usb_model.specs.Transfer.{into, nowhere, usbGetDescriptor}
 use Rattle.usb_model.specs.Walk.{RecordLength, walk}
 use Rattle.usb_model.specs.Usbd.{usbSetConfigure, usbAllocateDevice}
@@ -30,11 +30,6 @@ unfoldable pub readHead : ℕ → ℕ → M (List ℕ)
 readHead place configuration =
     usbGetDescriptor place ToDevice Descriptors.ConfigurationDescriptor configuration 9 9 (into ConfigurationDescriptor 9)
 
-unfoldable pub readFull : ℕ → ℕ → M (List ℕ)
-readFull place configuration = do
-  total ← getNumber place TotalLength 2
-  usbGetDescriptor place ToDevice Descriptors.ConfigurationDescriptor configuration total total nowhere
-
 unfoldable pub walkFull : ℕ → ℕ → List ℕ → M (Unit {0})
 walkFull place configuration full = do
   put place ConfigurationIndex configuration
@@ -48,6 +43,11 @@ configureWith place configuration full = do
   walkFull place configuration full
   value ← get place ConfigurationValue
   usbSetConfigure place value
+
+unfoldable pub configureFull : ℕ → ℕ → ℕ → M (Unit {0})
+configureFull place configuration total = do
+  full ← usbGetDescriptor place ToDevice Descriptors.ConfigurationDescriptor configuration total total nowhere
+  configureWith place configuration full
 
 -- ---- what the functions promise
 

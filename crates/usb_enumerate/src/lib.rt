@@ -1,4 +1,5 @@
 // usbd.rs: the device descriptor, the address, the configuration, and the place of a new device.
+use usb_deliver::deliver_descriptor;
 use usb_device::device::ADDRESSED;
 use usb_device::device::CONFIGURED;
 use usb_device::device::DEFAULT;
@@ -27,7 +28,6 @@ use usb_transfer::message::Transfer;
 use usb_transfer::message::control;
 use usb_transfer::message::usb_control_message;
 use usb_transfer::message::usb_get_descriptor;
-use usb_transfer::outcome::delivered;
 use usb_types::request::DEVICE;
 use usb_types::request::SET_ADDRESS;
 use usb_types::request::SET_CONFIGURATION;
@@ -42,7 +42,8 @@ ghost use lib.ListN.{length};
 ghost use Rattle.usb_device.specs.Layout.{Places, StoreLength};
 ghost use Rattle.usb_model.specs.Usbd as Model;
 ghost use Rattle.usb_transfer.specs.Runs.{Ready, Does, Transfers};
-ghost use Rattle.usb_enumerate.specs.Parts.{firstSize, readHead, readFull, walkFull, configureWith, Counts, Walks, Allocates};
+ghost use Rattle.usb_deliver.specs.Deliveries.{Follows};
+ghost use Rattle.usb_enumerate.specs.Parts.{firstSize, readHead, walkFull, configureWith, configureFull, Counts, Walks, Allocates};
 
 // A read of the device descriptor: how many bytes came.
 fn read_device_descriptor(
@@ -209,35 +210,6 @@ fn read_configuration(
     )
 }
 
-// All bytes of the configuration, which are handed back and not stored.
-fn read_full(
-    store: &mut [u8],
-    log: &mut [u8],
-    outcomes: &[u8],
-    at: Progress,
-    place: usize,
-    configuration: u8,
-) -> Transfer
-    requires { ⌜ Ready store log outcomes at × (place < Places) ⌝ }
-    ensures { λ r. ⌜ Transfers (readFull place configuration) store log outcomes at r ⌝ }
-{
-    let total = u16_at(store, place, TOTAL_LENGTH);
-    let nowhere = Buffer { field: 0, room: 0 };
-    usb_get_descriptor(
-        store,
-        log,
-        outcomes,
-        at,
-        place,
-        DEVICE,
-        usb_types::descriptors::CONFIGURATION_DESCRIPTOR,
-        configuration,
-        total,
-        total,
-        nowhere,
-    )
-}
-
 // The walk over a configuration, into the device's record of interfaces and endpoints.
 fn walk_full(store: &mut [u8], place: usize, configuration: u8, full: &[u8]) -> Answer
     requires { ⌜ (length (now store) ≡ StoreLength) × (place < Places) ⌝ }
@@ -270,6 +242,65 @@ fn configure_with(
     usb_set_configure(store, log, outcomes, at, place, value)
 }
 
+// What follows the read of the full configuration.
+fn configure_rest<'a>(
+    store: &mut [u8],
+    log: &mut [u8],
+    outcomes: &'a [u8],
+    place: usize,
+    configuration: u8,
+    step: Step,
+    full: &'a [u8],
+) -> Step
+    requires { ⌜ Ready store log outcomes (step .at) × (place < Places) ⌝ }
+    ensures { λ r. ⌜ Follows (configureWith place configuration) store log outcomes step (now (full .entry)) r ⌝ }
+{
+    let answer = step.answer;
+    let Answer::Ok = answer else {
+        return step;
+    };
+    let next = step.at;
+    configure_with(store, log, outcomes, next, place, configuration, full)
+}
+
+// All bytes of the configuration, which are not stored, and what follows.
+fn configure_full(
+    store: &mut [u8],
+    log: &mut [u8],
+    outcomes: &[u8],
+    at: Progress,
+    place: usize,
+    configuration: u8,
+    total: u16,
+) -> Step
+    requires { ⌜ Ready store log outcomes at × (place < Places) ⌝ }
+    ensures { λ r. ⌜ Does (configureFull place configuration total) store log outcomes at r ⌝ }
+{
+    let nowhere = Buffer { field: 0, room: 0 };
+    let full = deliver_descriptor(
+        store,
+        log,
+        outcomes,
+        at,
+        place,
+        DEVICE,
+        usb_types::descriptors::CONFIGURATION_DESCRIPTOR,
+        configuration,
+        total,
+        total,
+        nowhere,
+    );
+    configure_rest(
+        store,
+        log,
+        outcomes,
+        place,
+        configuration,
+        full.step,
+        full.bytes,
+    )
+}
+
 pub fn usb_configure(
     store: &mut [u8],
     log: &mut [u8],
@@ -294,15 +325,8 @@ pub fn usb_configure(
         return step;
     };
     let next = step.at;
-    let transfer = read_full(store, log, outcomes, next, place, configuration);
-    let step = transfer.step;
-    let answer = step.answer;
-    let Answer::Ok = answer else {
-        return step;
-    };
-    let full = delivered(outcomes, next.taken, transfer.len);
-    let last = step.at;
-    configure_with(store, log, outcomes, last, place, configuration, full)
+    let total = u16_at(store, place, TOTAL_LENGTH);
+    configure_full(store, log, outcomes, next, place, configuration, total)
 }
 
 // The first place that is not used gets a new device; 32 where all are used.

@@ -2,11 +2,9 @@
 use mathlib.Core.Path.{_≡_, refl, sym, ap, _∙_}
 use mathlib.Core.Bool.{Bool, true, false, cond}
 use mathlib.Core.List.{List}
-use Prim.Native.Nat.{ℕ, _+_, _-_, _*_, _<_, _≤_}
-use native.Mathlib.Omega.{arith}
+use Prim.Native.Nat.{ℕ, _+_, _*_}
 use borrow.Author.Tests.{eq-eqb, ne-eqb}
 use lib.Dec.{eqb}
-use lib.ListN.{length}
 use Rattle.usb_types.specs.Requests.{ClearFeature, SetFeature, ToPort, deviceRequest}
 use Rattle.usb_types.specs.declared.types.Halt.{Halt}
 use Rattle.usb_types.specs.declared.types.Answer.{Answer}
@@ -19,9 +17,8 @@ use Rattle.usb_model.specs.Programs.{on, _>>_, skip, change, caught, attempt, i
 use Rattle.usb_model.specs.World.{World, M, put, putBytes}
 use Rattle.usb_model.specs.Hub.{WithoutDescriptor, WithDescriptor}
 use Rattle.usb_transfer.specs.declared.log.Step.{Step}
-use Rattle.usb_transfer.specs.Runs.{here, gave, Ends, dataOf}
+use Rattle.usb_transfer.specs.Runs.{here, gave, Ends}
 use Rattle.usb_transfer.proofs.Steps.{NotStop}
-use Rattle.usb_transfer.proofs.Messages.{data-length}
 use Rattle.usb_hub.specs.Parts.{passed, ignored, featureRequest, powerDelay, withBlank}
 
 -- ---- a result that is not looked at
@@ -80,7 +77,3 @@ blanked {s = s} {l} {o} {at} hub s′ e {k} {v} {a} {y} r = go (eqb (byteAt s hu
         → Ends (cond b (put hub Hub WithDescriptor >> putBytes hub HubDescriptor (blank 9)) skip >> k) (here s l o at) a y v
     go true e = record { is = rw e at (r .is); fit = r .fit }
     go false e = record { is = rw e at (r .is); fit = r .fit }
-
--- a header of two bytes has a first one
-pub first-there : (o : List ℕ) (t n : ℕ) → t + 4 + n ≤ length o → 2 ≤ n → 0 < length (dataOf o t n)
-first-there o t n h m = omega (arith, data-length o t n h)

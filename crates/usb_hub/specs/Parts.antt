@@ -3,6 +3,7 @@ use mathlib.Core.Bool.{Bool, cond}
 use mathlib.Core.List.{List}
 use Prim.Native.Nat.{ℕ, _+_, _*_}
 use lib.Dec.{eqb}
+use lib.ListN.{getD}
 use Rattle.usb_types.specs.Requests.{ClearFeature, SetFeature, ToHub, ToPort, deviceRequest}
 use Rattle.usb_types.specs.Descriptors as Descriptors
 use Rattle.usb_types.specs.declared.request.UsbDeviceRequest.{UsbDeviceRequest}
@@ -11,8 +12,8 @@ use Rattle.usb_types.specs.declared.types.Answer.the-variants.{Ok, Error, Stop}
 use Rattle.usb_device.specs.Layout.{Hub, HubDescriptor}
 use Rattle.usb_device.specs.Access.{byteAt, withByte, withBytes}
 use Rattle.usb_device.specs.Device.{blank}
-use Rattle.usb_model.specs.Programs.{_>>_, skip, ignore, each}
-use Rattle.usb_model.specs.World.{M}
+use Rattle.usb_model.specs.Programs.{_>>=_, _>>_, skip, ignore, when, each}
+use Rattle.usb_model.specs.World.{M, get, put, putBytes}
 use Rattle.usb_model.specs.Features.{PORT-POWER}
 use Rattle.usb_model.specs.Transfer.{into, usbGetDescriptor}
 use Rattle.usb_model.specs.Hub.{WithoutDescriptor, WithDescriptor, setPortFeature}
@@ -48,3 +49,11 @@ unfoldable pub readRest : ℕ → ℕ → M (Unit {0})
 readRest hub size = do
   usbGetDescriptor hub ToHub Descriptors.HubDescriptor 0 size size (into HubDescriptor 9)
   skip
+
+unfoldable pub afterHeader : ℕ → List ℕ → M (Unit {0})
+afterHeader hub header = do
+  data′ ← get hub Hub
+  when (eqb data′ WithoutDescriptor) (do
+    put hub Hub WithDescriptor
+    putBytes hub HubDescriptor (blank 9))
+  readRest hub (getD header 0 0)

@@ -1,4 +1,5 @@
 // The requests to a hub and to its ports.
+use usb_deliver::deliver_descriptor;
 use usb_device::store::HUB_STATUS;
 use usb_device::store::MAX_CHILDREN;
 use usb_device::store::PORT_STATUS;
@@ -13,7 +14,6 @@ use usb_transfer::log::micro_delay;
 use usb_transfer::message::control;
 use usb_transfer::message::read;
 use usb_transfer::message::usb_get_descriptor;
-use usb_transfer::outcome::delivered;
 use usb_types::request::CLEAR_FEATURE;
 use usb_types::request::GET_STATUS;
 use usb_types::request::HUB;
@@ -28,8 +28,9 @@ ghost use Prim.Native.Nat.{_≤_, _<_};
 ghost use lib.ListN.{length};
 ghost use Rattle.usb_device.specs.Layout.{Places, StoreLength};
 ghost use Rattle.usb_model.specs.Hub as Model;
-ghost use Rattle.usb_transfer.specs.Runs.{Ready, Does};
-ghost use Rattle.usb_hub.specs.Parts.{ignored, featureRequest, powerDelay, powerPorts, readRest, withBlank};
+ghost use Rattle.usb_transfer.specs.Runs.{Enough, Ready, Does};
+ghost use Rattle.usb_deliver.specs.Deliveries.{Follows};
+ghost use Rattle.usb_hub.specs.Parts.{ignored, featureRequest, powerDelay, powerPorts, withBlank, readRest, afterHeader};
 
 // Feature selectors, USB 2.0 table 11-17.
 pub const PORT_SUSPEND: u16 = 2;
@@ -256,6 +257,28 @@ fn read_rest(
     transfer.step
 }
 
+// What follows the read of the header: the length of the descriptor is its first byte.
+fn after_header<'a>(
+    store: &mut [u8],
+    log: &mut [u8],
+    outcomes: &'a [u8],
+    hub: usize,
+    step: Step,
+    header: &'a [u8],
+) -> Step
+    requires { ⌜ Ready store log outcomes (step .at) × (hub < Places) × Enough (step .answer) 2 (length (now header)) ⌝ }
+    ensures { λ r. ⌜ Follows (afterHeader hub) store log outcomes step (now (header .entry)) r ⌝ }
+{
+    let answer = step.answer;
+    let Answer::Ok = answer else {
+        return step;
+    };
+    let size = header[0];
+    put_blank(store, hub);
+    let next = step.at;
+    read_rest(store, log, outcomes, next, hub, size)
+}
+
 pub fn hub_read_descriptor(
     store: &mut [u8],
     log: &mut [u8],
@@ -266,17 +289,19 @@ pub fn hub_read_descriptor(
     requires { ⌜ Ready store log outcomes at × (hub < Places) ⌝ }
     ensures { λ r. ⌜ Does (Model.hubReadDescriptor hub) store log outcomes at r ⌝ }
 {
-    let kind = usb_types::descriptors::HUB_DESCRIPTOR;
     let nowhere = Buffer { field: 0, room: 0 };
-    let transfer = usb_get_descriptor(store, log, outcomes, at, hub, HUB, kind, 0, 2, 2, nowhere);
-    let step = transfer.step;
-    let answer = step.answer;
-    let Answer::Ok = answer else {
-        return step;
-    };
-    let header = delivered(outcomes, at.taken, transfer.len);
-    let size = header[0];
-    put_blank(store, hub);
-    let next = step.at;
-    read_rest(store, log, outcomes, next, hub, size)
+    let header = deliver_descriptor(
+        store,
+        log,
+        outcomes,
+        at,
+        hub,
+        HUB,
+        usb_types::descriptors::HUB_DESCRIPTOR,
+        0,
+        2,
+        2,
+        nowhere,
+    );
+    after_header(store, log, outcomes, hub, header.step, header.bytes)
 }

@@ -1,0 +1,2 @@
+pub mod Hubs
+pub mod Births
