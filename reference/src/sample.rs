@@ -57,9 +57,14 @@ fn hub_with_instrument() -> Script {
         .then(empty_port())
 }
 
-/// The file of the outcomes.
-pub fn outcomes_file() -> PathBuf {
-    repository().join("samples/bench_start.outcomes")
+/// The files of the outcomes: the sample, and busrun's input.
+pub fn outcomes_files() -> [PathBuf; 2] {
+    ["samples/bench_start.outcomes", "crates/busrun/stdin"].map(|file| repository().join(file))
+}
+
+/// The file of the actions that the original then logged: what busrun writes.
+pub fn log_file() -> PathBuf {
+    repository().join("crates/busrun/stdout")
 }
 
 /// The file of the store that the original then left: storecheck's input.

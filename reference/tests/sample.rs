@@ -1,7 +1,7 @@
 //! The bench start in the repository: what it shows, and that the original leaves it.
 
 use reference::layout::*;
-use reference::sample::{bench_start, outcomes_file, store_file};
+use reference::sample::{bench_start, log_file, outcomes_files, store_file};
 use reference::sound::is_sound;
 
 fn sample(file: std::path::PathBuf) -> Vec<u8> {
@@ -10,7 +10,9 @@ fn sample(file: std::path::PathBuf) -> Vec<u8> {
 
 #[test]
 fn the_outcomes_are_the_script() {
-    assert_eq!(sample(outcomes_file()), bench_start());
+    for file in outcomes_files() {
+        assert_eq!(sample(file), bench_start());
+    }
 }
 
 /// Place, hub place and port of each device but the root, product number.
@@ -32,7 +34,7 @@ fn each_instrument_stands_on_its_port() {
 
 #[cfg(have_original)]
 #[test]
-fn the_original_leaves_the_store() {
+fn the_original_leaves_the_store_and_the_log() {
     use reference::call::{Call, Entry};
     use reference::run::run;
 
@@ -44,4 +46,5 @@ fn the_original_leaves_the_store() {
     // connection changes of 8.
     assert_eq!((report.answer, report.requests), (0, 24 + 8 + 6 + 6 + 24));
     assert_eq!(store, sample(store_file()));
+    assert_eq!(log[..report.logged], sample(log_file()));
 }

@@ -1,17 +1,105 @@
 -- The ways through the exported calls, over plain values. Assumes nothing.
-use mathlib.Core.Path.{_≡_}
-use mathlib.Core.List.{List}
-use Prim.Native.Nat.{ℕ, _≤_, _<_}
+use mathlib.Core.Path.{_≡_, refl, sym, ap, _∙_, subst}
+use mathlib.Core.Bool.{false}
+use mathlib.Core.List.{List, [], _∷_}
+use Prim.Native.Nat.{ℕ, suc, _+_, _≤_, _<_}
+use native.Mathlib.Omega.{arith}
+use lib.Dec.{leb}
 use lib.IntN.{ℤ}
-use lib.ListN.{length}
-use borrow.Author.Tests.{lt-ltb, le-ltb, eq-eqb, ne-eqb}
+use lib.ListN.{length, getD}
+use mir.Syntax.{w8}
+use mir.Val.{Fits}
+use borrow.Author.Tests.{ltb-false, leb-false, lt-ltb, le-ltb, eq-eqb, ne-eqb}
 use Rattle.usb_types.specs.Answers.{answerNumber, refusalNumber}
+use Rattle.usb_types.specs.declared.types.Refusal.{Refusal}
 use Rattle.usb_types.specs.declared.types.Refusal.the-variants.{BadArgument}
 use Rattle.usb_types.specs.declared.types.Answer.{Answer}
+use Rattle.usb_types.specs.declared.types.Answer.the-variants.{Ok, Error, Stop}
+use Rattle.usb_device.specs.Layout.{Places}
+use Rattle.usb_device.specs.Access.{write}
+use Rattle.usb_device.specs.Device.{firstUnused}
+use Rattle.usb_sound.specs.Sound.{Sound}
+use Rattle.usb_model.specs.declared.Progress.{Progress}
+use Rattle.usb_model.specs.World.{World, M}
 use Rattle.usb_model.specs.Walk.{RecordLength, walk}
-use Rattle.usb_model.specs.Entry.{configurationWalk}
+use Rattle.usb_model.specs.Entry as Model
+use Rattle.usb_model.specs.Entry.{Lent, start, leaves, answered, call, isUnused, noPort, configurationWalk}
+use Rattle.usb_model.specs.Kept.{Bytes, Good, LentBytes}
+use Rattle.usb_model.proofs.Accepted.{neither}
+use Rattle.usb_model.proofs.Entries.{start-good}
+use Rattle.usb_transfer.specs.declared.log.Step.{Step}
+use Rattle.usb_transfer.specs.Runs.{here, Fit, gave, Ends}
 use Rattle.usb_walk.specs.Steps.{endsWith}
-use Rattle.lidrumak.specs.Replies.{walkLeft}
+use Rattle.usb_driver.specs.Bus.{Bus}
+use Rattle.lidrumak.specs.declared.reply.Reply.{Reply}
+use Rattle.lidrumak.specs.declared.verdict.Verdict.{Verdict}
+use Rattle.lidrumak.specs.declared.verdict.Verdict.the-variants.{Accepted, Refused}
+use Rattle.lidrumak.specs.Replies.{left, walkLeft, refusalReply, stepReply, nothingDone, told}
+
+-- ---- a call, refused or run
+
+answered-is : (a : Answer) (w : World) → leaves (answerNumber a) w ≡ answered (gave a tt w)
+answered-is Ok w = refl
+answered-is (Error e) w = refl
+answered-is (Stop h) w = refl
+
+module _ (l : Lent) (m : M (Unit {0})) {verdict : Model.Verdict} (v : Verdict) (e : told v ≡ verdict) where
+  pub refused-call : {r : Refusal} → v ≡ Refused r → (reply : Reply) → reply ≡ refusalReply r → left reply (l .new) (l .log) ≡ call l verdict m
+  unfolding call
+  refused-call f reply g = rw (← e, f, g)
+
+  -- the driver ran m in the model's first world
+  pub accepted-call : v ≡ Accepted → {w : World} → w ≡ start l → (step : Step) {s log : List ℕ}
+      → Ends m w (step .answer) tt (here s log (l .outcomes) (step .at)) → (reply : Reply) → reply ≡ stepReply step
+      → left reply s log ≡ call l verdict m
+  unfolding call
+  accepted-call f b step {s} {log} d reply g =
+      rw (← e, f, g) (answered-is (step .answer) (here s log (l .outcomes) (step .at)) ∙ ap answered (sym (d .is) ∙ ap m b))
+
+pub accepts : {verdict : Model.Verdict} (v : Verdict) → told v ≡ verdict → v ≡ Accepted → verdict ≡ Model.accepted
+accepts v e f = sym e ∙ ap told f
+
+-- ---- the first world of a call
+
+-- a slice of u8 holds bytes
+pub bytes-of : {l : List ℕ} → ((i : ℕ) → Fits w8 (getD l i 0)) → Bytes l
+bytes-of f = record { below = λ i. f i .fits }
+
+-- a whole list over another as long
+whole-copy : (d s : List ℕ) → length d ≡ length s → write d 0 s ≡ s
+whole-copy [] [] e = refl
+whole-copy [] (y ∷ s) e = absurd (omega arith)
+whole-copy (x ∷ d) [] e = absurd (omega arith)
+whole-copy (x ∷ d) (y ∷ s) e = ap (λ (t : List ℕ). y ∷ t) (whole-copy d s (omega arith))
+
+module _ (l : Lent) (lengths : length (l .new) ≡ length (l .old)) (s : List ℕ) (copied : s ≡ write (l .new) 0 (l .old)) (at : Progress) (none : at ≡ nothingDone) where
+  pub first-world : here s (l .log) (l .outcomes) at ≡ start l
+  first-world = rw (copied, none, whole-copy (l .new) (l .old) lengths)
+
+-- what the functions of the driver ask of it
+pub record Started (w : World) : Type 0 where
+  pub fit : Fit w
+  pub good : Good w
+
+pub started : (l : Lent) → LentBytes l → Sound (l .old) → {w : World} → w ≡ start l → Started w
+started l bytes r e =
+    let good = start-good l bytes r in
+    subst Started (sym e) (record {
+      fit = record { whole = good .whole; logged = good .logged; taken = good .taken; counted = omega arith };
+      good = good;
+    })
+
+pub on-bus : (l : Lent) → LentBytes l → Sound (l .old) → {w : World} → w ≡ start l → (place : ℕ) → place < Places → place + 1 ≤ firstUnused (l .old) → Bus place w
+on-bus l bytes r e place inside used =
+    let s = started l bytes r refl in
+    subst (Bus place) (sym e) (record { fit = s .fit; good = s .good; used = omega arith; inside = inside })
+
+-- a child that is not unused
+pub used-inside : (l : Lent) (place : ℕ) → isUnused l place ≡ false → place < Places
+used-inside l place e = leb-false Places place (neither (leb Places place) _ e .0)
+
+pub port-inside : (port : ℕ) → noPort port ≡ false → port < 10
+port-inside port e = omega (arith, ltb-false 9 port e)
 
 -- ---- the walk alone
 

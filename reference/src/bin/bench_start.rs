@@ -1,5 +1,5 @@
 //! Writes a bench start: the outcomes of a root attach on an empty store at
-//! speed 0, and the store that the original then left.
+//! speed 0, and the store and the actions that the original then left.
 
 #[cfg(not(have_original))]
 fn main() {
@@ -11,7 +11,7 @@ fn main() -> std::io::Result<()> {
     use reference::call::{Call, Ended, Entry};
     use reference::layout::STORE;
     use reference::run::run;
-    use reference::sample::{bench_start, outcomes_file, store_file};
+    use reference::sample::{bench_start, log_file, outcomes_files, store_file};
 
     let outcomes = bench_start();
     let mut store = vec![0; STORE];
@@ -19,8 +19,11 @@ fn main() -> std::io::Result<()> {
     let call = Call::new(Entry::RootAttach, 0, 0);
     let report = run(call, &vec![0; STORE], &mut store, &outcomes, &mut log);
     assert_eq!((report.answer, report.ended), (0, Ended::Inside));
-    std::fs::write(outcomes_file(), &outcomes)?;
+    for file in outcomes_files() {
+        std::fs::write(file, &outcomes)?;
+    }
     std::fs::write(store_file(), &store)?;
+    std::fs::write(log_file(), &log[..report.logged])?;
     println!("{} requests", report.requests);
     Ok(())
 }

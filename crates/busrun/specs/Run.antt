@@ -1,0 +1,29 @@
+-- What busrun writes.
+use mathlib.Core.Bool.{cond}
+use mathlib.Core.List.{List}
+use Prim.Native.Nat.{ℕ, zero, suc, _+_, _*_}
+use lib.Dec.{eqb}
+use lib.ListN.{getD, take, drop, replicate}
+use Rattle.usb_device.specs.Layout.{StoreLength}
+use Rattle.usb_model.specs.Entry.{Left, rootAttach}
+use Rattle.lidrumak.specs.Replies.{lent}
+
+abbrev pub LogLength : ℕ
+LogLength = 65536
+
+-- how many actions stand at the start of a log, at most n: "kind (1 request, 2 wait, 3 ..)", and 0 where none was logged
+unfoldable pub actionsIn : ℕ → List ℕ → ℕ
+actionsIn zero log = 0
+actionsIn (suc n) log = cond (eqb (getD log 0 0) 0) 0 (actionsIn n (drop 16 log) + 1)
+
+-- the bytes of the actions that a log of zeros got
+unfoldable pub logged : List ℕ → List ℕ
+logged log = take (actionsIn 4096 log * 16) log
+
+-- "attaches an empty store at speed 0", "and has a log of 65,536"
+unfoldable pub attached : List ℕ → Left
+attached outcomes = rootAttach 0 (lent (replicate StoreLength 0) (replicate StoreLength 0) outcomes (replicate LogLength 0))
+
+-- "writes the log bytes"
+unfoldable pub busrun : List ℕ → List ℕ
+busrun outcomes = logged (attached outcomes .log)

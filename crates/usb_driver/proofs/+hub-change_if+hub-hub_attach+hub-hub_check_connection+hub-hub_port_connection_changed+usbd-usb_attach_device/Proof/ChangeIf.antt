@@ -1,0 +1,41 @@
+-- What `change_if` is left to show. Assumes nothing.
+use Prim.Native.Nat.{ℕ, _+_, _*_, _-_, _≤_, _<_}
+use borrow.Author.Needs.{needs}
+use mathlib.Core.Path.{_≡_, refl, sym, ap, _∙_}
+use native.Mathlib.Omega.{arith}
+use native.Mathlib.Nat.{le-refl}
+use Rattle.usb_transfer.specs.declared.log.Step.{Step}
+use Rattle.usb_device.specs.Device.{freePlaces}
+use Rattle.usb_transfer.specs.Runs.{here}
+use Rattle.usb_transfer.proofs.Steps.{not-ok, bound, bound-ended, next, next-ended, got-as, done-if, done-unless, going, ends-with, each-starts, each-last, each-ended, each-goes}
+use Rattle.usb_hub.proofs.Parts.{ignores}
+use Rattle.usb_driver.proofs.Reaches.{enumerated-after, ready-after, started-after, changed-after, checked-after, at-fuel, Ports}
+use Rattle.usb_driver.proofs.Lines.{ends-as, attaches, hub-attaches, changes, checks}
+use Rattle.usb_driver.proofs.Births.{born}
+use Rattle.usb_driver.proofs.hub.change_if.Reads as change-if
+use Rattle.usb_driver.proofs.+hub-change_if+hub-hub_attach+hub-hub_check_connection+hub-hub_port_connection_changed+usbd-usb_attach_device.Lts-hub-change_if as change-if-lts
+use Rattle.usb_driver.proofs.hub.hub_port_connection_changed.Reads as hub-port-connection-changed
+use Rattle.usb_hub.proofs.requests.ignore.Reads as ignore-reads
+use Rattle.usb_driver.proofs.+hub-change_if+hub-hub_attach+hub-hub_check_connection+hub-hub_port_connection_changed+usbd-usb_attach_device.Proof.Measures.{change-if-at, hub-port-connection-changed-below}
+
+module _ (t : ℕ) where
+  abbrev pub calls : change-if-lts.Claims
+  calls = (hub-port-connection-changed-below t, hub-port-connection-changed.Post, ignore-reads.Asked, ignore-reads.Learnt)
+
+  pub hub-port-connection-changed-requires : change-if-lts.Need-hub-port-connection-changed-requires calls (change-if-at t) change-if.Post
+  hub-port-connection-changed-requires c κs = (omega (arith, c .before .before .before .before .before .before .pre .0), c .before .before .before .before .before .before .pre .1)
+
+  pub ignore-requires : change-if-lts.Need-ignore-requires calls (change-if-at t) change-if.Post
+  ignore-requires c κs = search needs
+
+  pub same-length : change-if-lts.Need-same-length calls (change-if-at t) change-if.Post
+  same-length c = search needs
+
+  pub same-length-2 : change-if-lts.Need-same-length-2 calls (change-if-at t) change-if.Post
+  same-length-2 c = search needs
+
+  pub returns : change-if-lts.Need-returns calls (change-if-at t) change-if.Post
+  returns c n h = done-if (c .before .before .before .before .before .before .before .before .if1 .taken) (rw (c .ignore .ensures) (ignores (c .before .before .before .before .before .hub-port-connection-changed .ensures n h)))
+
+  pub returns-2 : change-if-lts.Need-returns-2 calls (change-if-at t) change-if.Post
+  returns-2 c n h = done-unless _ (c .if1 .left) (c .before .before .before .before .pre .1 .0 .fit)

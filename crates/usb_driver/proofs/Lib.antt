@@ -1,0 +1,5 @@
+pub mod Lines
+pub mod Goes
+pub mod Reaches
+pub mod Births
+pub mod Scans

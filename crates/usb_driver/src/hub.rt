@@ -1,0 +1,245 @@
+// device/hub.rs: hub attach, port check and connection change, which call each other and attach; scan; the check of a child.
+use crate::usbd::usb_attach_device;
+use usb_attach::child::new_child;
+use usb_attach::hub::ready_hub;
+use usb_check::end_check;
+use usb_check::start_check;
+use usb_device::hub::load_hub;
+use usb_device::store::HUB;
+use usb_device::store::MAX_CHILDREN;
+use usb_device::store::byte_at;
+use usb_hub::ports::child_of;
+use usb_hub::requests::ignore;
+use usb_model::Progress;
+use usb_port::ChildPort;
+use usb_port::port_of_child;
+use usb_transfer::log::Step;
+use usb_types::types::Answer;
+use usb_types::types::ErrorCode;
+use usb_types::types::wide;
+ghost use Prim.Native.Nat.{ℕ, suc, _+_, _≤_, _<_};
+ghost use Rattle.usb_device.specs.Layout.{Places};
+ghost use Rattle.usb_device.specs.Device.{freePlaces};
+ghost use Rattle.usb_model.specs.Programs.{ignore, when};
+ghost use Rattle.usb_model.specs.Hub as Model;
+ghost use Rattle.usb_model.specs.Attach.{attachBelow};
+ghost use Rattle.usb_transfer.specs.Runs.{Does};
+ghost use Rattle.usb_driver.specs.Bus.{OnBus};
+ghost use Rattle.usb_driver.specs.Parts.{checkChild};
+
+pub fn hub_attach(
+    store: &mut [u8],
+    log: &mut [u8],
+    outcomes: &[u8],
+    at: Progress,
+    hub: usize,
+) -> Step
+    requires { ⌜ OnBus hub store log outcomes at ⌝ }
+    ensures { λ r. ⌜ ((n : ℕ) → freePlaces (now (store .entry)) ≤ n → Does (Model.hubAttach (attachBelow n) hub) store log outcomes at r) ⌝ }
+{
+    let ready = ready_hub(store, log, outcomes, at, hub);
+    let answer = ready.answer;
+    let Answer::Ok = answer else {
+        return ready;
+    };
+    let mut progress = ready.at;
+    let count = wide(byte_at(store, hub, MAX_CHILDREN));
+    let mut port = 0;
+    while port < count {
+        let step = ignore(hub_check_connection(store, log, outcomes, progress, hub, port));
+        let answer = step.answer;
+        let Answer::Ok = answer else {
+            return step;
+        };
+        progress = step.at;
+        port += 1;
+    }
+    Step {
+        answer: Answer::Ok,
+        at: progress,
+    }
+}
+
+pub fn hub_check_connection(
+    store: &mut [u8],
+    log: &mut [u8],
+    outcomes: &[u8],
+    at: Progress,
+    hub: usize,
+    port: usize,
+) -> Step
+    requires { ⌜ OnBus hub store log outcomes at × (port < 10) ⌝ }
+    ensures { λ r. ⌜ ((n : ℕ) → freePlaces (now (store .entry)) ≤ n → Does (Model.hubCheckConnection (attachBelow n) hub port) store log outcomes at r) ⌝ }
+{
+    let found = start_check(store, log, outcomes, at, hub, port);
+    let started = found.step;
+    let due = found.due;
+    let answer = started.answer;
+    let Answer::Ok = answer else {
+        return started;
+    };
+    let next = started.at;
+    let first = change_if(store, log, outcomes, next, hub, port, due.dropped);
+    let answer = first.answer;
+    let Answer::Ok = answer else {
+        return first;
+    };
+    let then = first.at;
+    let second = change_if(store, log, outcomes, then, hub, port, due.changed);
+    let answer = second.answer;
+    let Answer::Ok = answer else {
+        return second;
+    };
+    let last = second.at;
+    end_check(store, log, outcomes, last, hub, port, due.status)
+}
+
+// A connection change that is due; of its result only a stop counts.
+fn change_if(
+    store: &mut [u8],
+    log: &mut [u8],
+    outcomes: &[u8],
+    at: Progress,
+    hub: usize,
+    port: usize,
+    due: bool,
+) -> Step
+    requires { ⌜ OnBus hub store log outcomes at × (port < 10) ⌝ }
+    ensures { λ r. ⌜ ((n : ℕ) → freePlaces (now (store .entry)) ≤ n → Does (when due (ignore (Model.hubPortConnectionChanged (attachBelow n) hub port))) store log outcomes at r) ⌝ }
+{
+    if due {
+        return ignore(hub_port_connection_changed(store, log, outcomes, at, hub, port));
+    }
+    Step {
+        answer: Answer::Ok,
+        at,
+    }
+}
+
+pub fn hub_port_connection_changed(
+    store: &mut [u8],
+    log: &mut [u8],
+    outcomes: &[u8],
+    at: Progress,
+    hub: usize,
+    port: usize,
+) -> Step
+    requires { ⌜ OnBus hub store log outcomes at × (port < 10) ⌝ }
+    ensures { λ r. ⌜ ((n : ℕ) → freePlaces (now (store .entry)) ≤ n → Does (Model.hubPortConnectionChanged (attachBelow n) hub port) store log outcomes at r) ⌝ }
+{
+    let born = new_child(store, log, outcomes, at, hub, port);
+    let step = born.step;
+    let answer = step.answer;
+    let Answer::Ok = answer else {
+        return step;
+    };
+    let next = step.at;
+    usb_attach_device(store, log, outcomes, next, born.place)
+}
+
+// Every port in turn, and the hubs below.
+pub fn hub_check_for_change(
+    store: &mut [u8],
+    log: &mut [u8],
+    outcomes: &[u8],
+    at: Progress,
+    hub: usize,
+) -> Step
+    requires { ⌜ OnBus hub store log outcomes at ⌝ }
+    ensures { λ r. ⌜ ((n m : ℕ) → freePlaces (now (store .entry)) ≤ n → Places ≤ hub + m → Does (Model.hubCheckForChange (attachBelow n) m hub) store log outcomes at r) ⌝ }
+{
+    let count = wide(byte_at(store, hub, MAX_CHILDREN));
+    let mut progress = at;
+    let mut port = 0;
+    while port < count {
+        let step = scan_port(store, log, outcomes, progress, hub, port);
+        let answer = step.answer;
+        let Answer::Ok = answer else {
+            return step;
+        };
+        progress = step.at;
+        port += 1;
+    }
+    Step {
+        answer: Answer::Ok,
+        at: progress,
+    }
+}
+
+// A failed check passes over the child, and so does a child without hub data.
+fn scan_port(
+    store: &mut [u8],
+    log: &mut [u8],
+    outcomes: &[u8],
+    at: Progress,
+    hub: usize,
+    port: usize,
+) -> Step
+    requires { ⌜ OnBus hub store log outcomes at × (port < 10) ⌝ }
+    ensures { λ r. ⌜ ((n m : ℕ) → freePlaces (now (store .entry)) ≤ n → Places ≤ hub + suc m → Does (Model.scanPort (attachBelow n) (Model.hubCheckForChange (attachBelow n) m) hub port) store log outcomes at r) ⌝ }
+{
+    let checked = hub_check_connection(store, log, outcomes, at, hub, port);
+    let answer = checked.answer;
+    let Answer::Ok = answer else {
+        return ignore(checked);
+    };
+    let child = wide(child_of(load_hub(store, hub), port));
+    if child == 0 {
+        return checked;
+    }
+    let place = child - 1;
+    if byte_at(store, place, HUB) == 0 {
+        return checked;
+    }
+    let next = checked.at;
+    hub_check_for_change(store, log, outcomes, next, place)
+}
+
+// The check of a child's port; another device there is an error.
+fn check_child(
+    store: &mut [u8],
+    log: &mut [u8],
+    outcomes: &[u8],
+    at: Progress,
+    hub: usize,
+    child: usize,
+    port: usize,
+) -> Step
+    requires { ⌜ OnBus hub store log outcomes at × (child < Places) × (port < 10) ⌝ }
+    ensures { λ r. ⌜ ((n : ℕ) → freePlaces (now (store .entry)) ≤ n → Does (checkChild (attachBelow n) hub child port) store log outcomes at r) ⌝ }
+{
+    let checked = hub_check_connection(store, log, outcomes, at, hub, port);
+    let answer = checked.answer;
+    let Answer::Ok = answer else {
+        return checked;
+    };
+    if wide(child_of(load_hub(store, hub), port)) != child + 1 {
+        let at = checked.at;
+        return Step {
+            answer: Answer::Error(ErrorCode::Device),
+            at,
+        };
+    }
+    checked
+}
+
+pub fn hub_check_connection_device(
+    store: &mut [u8],
+    log: &mut [u8],
+    outcomes: &[u8],
+    at: Progress,
+    hub: usize,
+    child: usize,
+) -> Step
+    requires { ⌜ OnBus hub store log outcomes at × (child < Places) ⌝ }
+    ensures { λ r. ⌜ ((n : ℕ) → freePlaces (now (store .entry)) ≤ n → Does (Model.hubCheckConnectionDevice (attachBelow n) hub child) store log outcomes at r) ⌝ }
+{
+    let found = port_of_child(store, hub, child);
+    match found {
+        ChildPort::Nowhere => Step {
+            answer: Answer::Error(ErrorCode::Argument),
+            at,
+        },
+        ChildPort::At(port) => check_child(store, log, outcomes, at, hub, child, port),
+    }
+}
