@@ -1,15 +1,23 @@
 # The two commands of the README: make run, make test. The others are named where they are used.
 CARGO = cargo --quiet
+LIBRARY = target/staticlib/liblidrumak.a
+BUSRUN = target/bin/busrun
+SOURCES := crates.txt $(shell find crates -name '*.rt' -o -name '*.antt')
 
-.PHONY: run test reference port compare vectors
+.PHONY: run test reference port compare vectors record
 
-# A store that a bench start left: is it sound, and how many devices does it hold?
+# The bus of a bench start is attached: each action, 16 bytes a line, with what it means. Then the store that the original left after the
+# same start: is it sound, and how many devices does it hold?
 run:
-	@rt check storecheck
+	@rt check busrun storecheck
+	@cd reference && $(CARGO) build --release --bin show_log
+	@$(BUSRUN) < samples/bench_start.outcomes | reference/target/release/show_log
 	@target/bin/storecheck < crates/storecheck/stdin
 
 # All tests. The last line is that of rt ci: 'N passed, 0 failed'.
-test: reference compare
+test:
+	@$(MAKE) --no-print-directory -j2 reference port
+	@$(MAKE) --no-print-directory compare
 	@rt fmt --check
 	@rt ci
 
@@ -19,16 +27,28 @@ reference:
 	@cd reference && $(CARGO) run --release --bin bench_lines
 	@cd reference && $(CARGO) run --release --bin random_calls
 
-# The port as a static library, proved: target/staticlib/liblidrumak.a. rt ci removes it with target/.
-port:
+# The port as a static library and busrun, proved. rt ci removes them with target/.
+port: $(LIBRARY) $(BUSRUN)
+
+$(LIBRARY): $(SOURCES)
 	@rt staticlib lidrumak
 
-# The port beside the original: the recorded walks, a table made by hand, 1,000,000 random walks.
+$(BUSRUN): $(LIBRARY)
+	@rt check busrun
+
+# The port beside the original: the recorded calls and walks, tables made by hand, busrun, 1,000,000 random walks and 200,000
+# random calls. 'make compare N=1000000' gives the number of both.
 compare: port
 	@cd comparison && $(CARGO) test --release --test "*"
-	@cd comparison && $(CARGO) run --release --bin compare_walks
+	@cd comparison && $(CARGO) run --release --bin compare_walks $(N)
+	@cd comparison && $(CARGO) run --release --bin compare_calls $(N)
 
-# Records the original's answers anew, into vectors/.
+# Replays the recorded answers through the port.
 vectors:
+	@rt check vectors
+	@cd crates/vectors/data && ../../../target/bin/vectors
+
+# Records the original's answers anew, into crates/vectors/data, and the bench start.
+record:
 	@cd reference && $(CARGO) run --release --bin record
 	@cd reference && $(CARGO) run --release --bin bench_start

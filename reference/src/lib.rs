@@ -23,6 +23,7 @@ pub mod stand_ins;
 #[cfg(have_original)]
 pub use never_reached::shutdown;
 
+pub mod actions;
 pub mod bench;
 pub mod call;
 pub mod check_sum;

@@ -1,5 +1,5 @@
-//! The recorded answers: ../vectors/calls.bin and ../vectors/walks.bin, as
-//! ../vectors/README.md lays them out.
+//! The recorded answers: calls.bin and walks.bin in ../crates/vectors/data, as
+//! ../crates/vectors/README.md lays them out.
 
 use std::path::PathBuf;
 
@@ -35,7 +35,10 @@ pub struct RecordedWalk {
 }
 
 pub fn folder() -> PathBuf {
-    PathBuf::from(concat!(env!("CARGO_MANIFEST_DIR"), "/../vectors"))
+    PathBuf::from(concat!(
+        env!("CARGO_MANIFEST_DIR"),
+        "/../crates/vectors/data"
+    ))
 }
 
 pub fn recorded_calls() -> Vec<RecordedCall> {

@@ -1,8 +1,8 @@
 -- The ways through the exported calls, over plain values. Assumes nothing.
 use mathlib.Core.Path.{_≡_, refl, sym, ap, _∙_, subst}
 use mathlib.Core.Bool.{false}
-use mathlib.Core.List.{List, [], _∷_}
-use Prim.Native.Nat.{ℕ, suc, _+_, _≤_, _<_}
+use mathlib.Core.List.{List}
+use Prim.Native.Nat.{ℕ, _+_, _≤_, _<_}
 use native.Mathlib.Omega.{arith}
 use lib.Dec.{leb}
 use lib.IntN.{ℤ}
@@ -18,6 +18,7 @@ use Rattle.usb_types.specs.declared.types.Answer.the-variants.{Ok, Error, Stop}
 use Rattle.usb_device.specs.Layout.{Places}
 use Rattle.usb_device.specs.Access.{write}
 use Rattle.usb_device.specs.Device.{firstUnused}
+use Rattle.usb_device.proofs.Writes.{write-whole}
 use Rattle.usb_sound.specs.Sound.{Sound}
 use Rattle.usb_model.specs.declared.Progress.{Progress}
 use Rattle.usb_model.specs.World.{World, M}
@@ -65,16 +66,9 @@ accepts v e f = sym e ∙ ap told f
 pub bytes-of : {l : List ℕ} → ((i : ℕ) → Fits w8 (getD l i 0)) → Bytes l
 bytes-of f = record { below = λ i. f i .fits }
 
--- a whole list over another as long
-whole-copy : (d s : List ℕ) → length d ≡ length s → write d 0 s ≡ s
-whole-copy [] [] e = refl
-whole-copy [] (y ∷ s) e = absurd (omega arith)
-whole-copy (x ∷ d) [] e = absurd (omega arith)
-whole-copy (x ∷ d) (y ∷ s) e = ap (λ (t : List ℕ). y ∷ t) (whole-copy d s (omega arith))
-
 module _ (l : Lent) (lengths : length (l .new) ≡ length (l .old)) (s : List ℕ) (copied : s ≡ write (l .new) 0 (l .old)) (at : Progress) (none : at ≡ nothingDone) where
   pub first-world : here s (l .log) (l .outcomes) at ≡ start l
-  first-world = rw (copied, none, whole-copy (l .new) (l .old) lengths)
+  first-world = rw (copied, none, write-whole (l .new) (l .old) lengths)
 
 -- what the functions of the driver ask of it
 pub record Started (w : World) : Type 0 where

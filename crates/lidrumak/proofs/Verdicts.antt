@@ -1,9 +1,7 @@
 -- The verdicts of the model, one test at a time, over plain values. Assumes nothing.
-use mathlib.Core.Path.{_≡_, refl, sym, ap, _∙_}
+use mathlib.Core.Path.{_≡_, refl, ap, _∙_}
 use mathlib.Core.Bool.{Bool, true, false, _||_}
-use mathlib.Core.List.{List}
 use Prim.Native.Nat.{ℕ, _≤_, _<_}
-use lib.Dec.{eqb, ltb}
 use borrow.Author.Tests.{lt-ltb, le-ltb, eq-eqb, ne-eqb}
 use Rattle.usb_types.specs.declared.types.Refusal.{Refusal}
 use Rattle.usb_types.specs.declared.types.Refusal.the-variants.{BadArgument, StoreDamaged, AlreadyAttached, RootSpeed}

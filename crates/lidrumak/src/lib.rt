@@ -2,7 +2,7 @@
 mod reply;
 mod verdict;
 
-use reply::Reply;
+pub use reply::Reply;
 use reply::begin;
 use reply::refuse;
 use reply::report;
@@ -13,7 +13,7 @@ use usb_driver::hub::hub_check_for_change;
 use usb_driver::hub::hub_port_connection_changed;
 use usb_driver::usbd::usb_attach_root_hub;
 use usb_port::hub_child_reset;
-use usb_port::hub_port_reset;
+use usb_retry::hub_port_reset;
 use usb_types::types::Refusal;
 use usb_types::types::answer_number;
 use usb_types::types::refusal_number;

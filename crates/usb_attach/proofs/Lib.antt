@@ -1,2 +1,1 @@
 pub mod Hubs
-pub mod Births

@@ -1,10 +1,10 @@
 // usbd.rs, UsbAttachDevice up to the class of the device.
+use usb_configure::usb_configure;
 use usb_device::device::DEFAULT;
 use usb_device::store::NUMBER;
 use usb_device::store::STATUS;
 use usb_device::store::byte_at;
 use usb_device::store::set_byte;
-use usb_enumerate::usb_configure;
 use usb_enumerate::usb_read_device_descriptor;
 use usb_enumerate::usb_set_address;
 use usb_model::Progress;

@@ -1,4 +1,7 @@
 // device/hub.rs, HubAttach up to its ports.
+use usb_device::store::ENDPOINT_ADDRESS;
+use usb_device::store::ENDPOINT_ATTRIBUTES;
+use usb_device::store::ENDPOINT_COUNT;
 use usb_device::store::MAX_CHILDREN;
 use usb_device::store::PORT_COUNT;
 use usb_device::store::byte_at;
@@ -6,7 +9,7 @@ use usb_device::store::set_byte;
 use usb_hub::requests::WITHOUT_DESCRIPTOR;
 use usb_hub::requests::hub_get_status;
 use usb_hub::requests::hub_power_on;
-use usb_hub::requests::hub_read_descriptor;
+use usb_hub_descriptor::hub_read_descriptor;
 use usb_model::Progress;
 use usb_transfer::log::Step;
 use usb_types::types::Answer;
@@ -17,13 +20,6 @@ ghost use lib.ListN.{length};
 ghost use Rattle.usb_device.specs.Layout.{Places, StoreLength};
 ghost use Rattle.usb_transfer.specs.Runs.{Ready, Does};
 ghost use Rattle.usb_attach.specs.Parts.{hubEndpoint, hubDescribed, hubPowered, hubReady, portsOf};
-
-// bNumEndpoints of interface 0, bEndpointAddress and bmAttributes of its first endpoint.
-const ENDPOINT_COUNT: usize = 132;
-
-const ENDPOINT_ADDRESS: usize = 202;
-
-const ENDPOINT_ATTRIBUTES: usize = 203;
 
 // One endpoint, to the host, of type interrupt (USB 2.0 11.23.1).
 fn hub_endpoint(store: &[u8], hub: usize) -> bool

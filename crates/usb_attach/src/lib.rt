@@ -1,4 +1,3 @@
-// The parts of attach, hub attach and connection change that attach no device.
-pub mod child;
+// The lines of attach and hub attach that attach no further device.
 pub mod device;
 pub mod hub;

@@ -3,22 +3,15 @@ use mathlib.Core.Path.{_≡_, refl}
 use mathlib.Core.Bool.{Bool, true, false, not, Bool·beq}
 use Prim.Native.Nat.{ℕ}
 use borrow.Author.Tests.{eq-eqb}
-use Rattle.usb_types.specs.declared.types.Answer.{Answer}
-use Rattle.usb_types.specs.declared.types.Answer.the-variants.{Ok, Error, Stop}
+use Rattle.usb_types.specs.declared.types.Answer.the-variants.{Ok}
 use Rattle.usb_device.specs.Layout.{Number, PortStatus, Child}
 use Rattle.usb_device.specs.Access.{byteAt, numberAt}
 use Rattle.usb_model.specs.World.{World}
 use Rattle.usb_model.specs.Features.{PORT-CONNECTION, C-PORT-CONNECTION, bit}
 use Rattle.usb_model.specs.Hub.{differ, hubPortGetStatus, portStatus}
 use Rattle.usb_transfer.specs.Runs.{Ends}
-use Rattle.usb_transfer.proofs.Steps.{NotOk, next, got, got-number, got-number-as, returned}
-use Rattle.usb_check.specs.Parts.{clearChanges, isDropped, isChanged, startCheck, Nothing}
-
-pub nothing-due : (a : Answer) → NotOk a → Nothing a (record { status = 0; dropped = false; changed = false })
-unfolding NotOk
-nothing-due Ok n = absurd n
-nothing-due (Error e) n = refl
-nothing-due (Stop h) n = refl
+use Rattle.usb_transfer.proofs.Steps.{next, got, got-number, got-number-as, returned}
+use Rattle.usb_check.specs.Parts.{clearChanges, isDropped, isChanged, startCheck}
 
 -- ---- the root hub
 

@@ -5,14 +5,13 @@ use Prim.Native.Nat.{ℕ}
 use lib.Dec.{eqb}
 use denote.Ref.{now}
 use Rattle.usb_types.specs.declared.types.Answer.{Answer}
-use Rattle.usb_types.specs.declared.types.Answer.the-variants.{Ok, Error, Stop}
 use Rattle.usb_device.specs.Layout.{Number, Child}
 use Rattle.usb_model.specs.declared.Progress.{Progress}
 use Rattle.usb_model.specs.Programs.{_>>=_, _>>_, return, ignore, when}
 use Rattle.usb_model.specs.World.{World, M, get}
 use Rattle.usb_model.specs.Features.{PORT-CONNECTION, PORT-ENABLE, PORT-SUSPEND, PORT-OVER-CURRENT, C-PORT-CONNECTION, C-PORT-ENABLE, C-PORT-OVER-CURRENT, C-PORT-RESET, bit}
 use Rattle.usb_model.specs.Hub.{differ, clearPortFeature, hubPowerOn, hubPortGetStatus, portStatus}
-use Rattle.usb_transfer.specs.Runs.{here, Ends, Lent}
+use Rattle.usb_transfer.specs.Runs.{here, Ends, IfOk, Lent}
 use Rattle.usb_check.specs.declared.Due.{Due}
 use Rattle.usb_check.specs.declared.Found.{Found}
 
@@ -58,9 +57,7 @@ endCheck hub port status = do
 
 -- nothing is due where the answer is not Ok
 abbrev pub Nothing : Answer → Due → Type 0
-Nothing Ok due = Unit {0}
-Nothing (Error e) due = due ≡ record { status = 0; dropped = false; changed = false }
-Nothing (Stop h) due = due ≡ record { status = 0; dropped = false; changed = false }
+Nothing a due = IfOk a (Unit {0}) (due ≡ record { status = 0; dropped = false; changed = false })
 
 pub record Finding (m : M Due) (w : World) (a : Answer) (due : Due) (v : World) : Type 0 where
   pub ends : Ends m w a due v

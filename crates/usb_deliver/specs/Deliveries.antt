@@ -10,7 +10,7 @@ use Rattle.usb_model.specs.declared.Progress.{Progress}
 use Rattle.usb_model.specs.Programs.{_>>=_}
 use Rattle.usb_model.specs.World.{World, M}
 use Rattle.usb_transfer.specs.declared.log.Step.{Step}
-use Rattle.usb_transfer.specs.Runs.{here, Ends, dataOf, Enough, Lent}
+use Rattle.usb_transfer.specs.Runs.{here, Ends, dataOf, IfOk, Enough, Lent}
 use Rattle.usb_deliver.specs.declared.Delivery.{Delivery}
 
 -- the data bytes where the answer is Ok, else none
@@ -21,9 +21,7 @@ partOf (Stop h) outcomes taken n = []
 
 -- no bytes where the answer is not Ok
 abbrev pub None : Answer → List ℕ → Type 0
-None Ok bytes = Unit {0}
-None (Error e) bytes = bytes ≡ []
-None (Stop h) bytes = bytes ≡ []
+None a bytes = IfOk a (Unit {0}) (bytes ≡ [])
 
 -- it ran m from w, and gave the bytes: a minimum of them where it answered Ok, else none
 pub record Delivered (m : M (List ℕ)) (minimum : ℕ) (w : World) (a : Answer) (bytes : List ℕ) (v : World) : Type 0 where

@@ -6,7 +6,8 @@ use mathlib.Core.List.{List, [], _∷_, _++_}
 use Prim.Native.Nat.{ℕ, zero, suc, _+_, _≤_, _<_}
 use native.Mathlib.Nat.{suc-add, zero-add}
 use native.Mathlib.Omega.{arith}
-use lib.ListN.{length, getD, take, set}
+use lib.ListN.{length, getD, take, drop, set}
+use lib.Seq.{drop-drop}
 use Rattle.usb_device.specs.Access.{write}
 
 pub length-write : (s : List ℕ) (i : ℕ) (vs : List ℕ) → length (write s i vs) ≡ length s
@@ -61,3 +62,24 @@ write-same (x ∷ s) zero (v ∷ vs) zero r h = refl
 write-same (x ∷ s) zero (v ∷ vs) (suc k) r h =
     let deeper : getD (write s zero vs) (zero + k) 0 ≡ getD vs k 0 = write-same s zero vs k (omega arith) (omega arith) in
     rw zero-add (rw zero-add at deeper)
+
+-- a part of a list that was lent, `&mut s[i..i + k]`, comes back as vs
+spliced : (s : List ℕ) (i : ℕ) (vs : List ℕ) → i + length vs ≤ length s → take i s ++ (vs ++ drop (i + length vs) s) ≡ write s i vs
+spliced [] zero [] h = refl
+spliced [] zero (v ∷ vs) h = absurd (omega arith)
+spliced [] (suc i) vs h = absurd (omega arith)
+spliced (x ∷ s) (suc i) vs h = rw suc-add (ap (λ (l : List ℕ). x ∷ l) (spliced s i vs (omega arith)))
+spliced (x ∷ s) zero [] h = refl
+spliced (x ∷ s) zero (v ∷ vs) h =
+    let deeper : take zero s ++ (vs ++ drop (zero + length vs) s) ≡ write s zero vs = spliced s zero vs (omega arith) in
+    rw zero-add (ap (λ (l : List ℕ). v ∷ l) (rw zero-add at deeper))
+
+pub part-back : (s : List ℕ) (i k : ℕ) (vs : List ℕ) → length vs ≡ k → i + k ≤ length s → take i s ++ (vs ++ drop k (drop i s)) ≡ write s i vs
+part-back s i k vs e h = rw (drop-drop k i s, ← e) (spliced s i vs (rw e h))
+
+-- a whole list over another as long
+pub write-whole : (d s : List ℕ) → length d ≡ length s → write d 0 s ≡ s
+write-whole [] [] e = refl
+write-whole [] (y ∷ s) e = absurd (omega arith)
+write-whole (x ∷ d) [] e = absurd (omega arith)
+write-whole (x ∷ d) (y ∷ s) e = ap (λ (t : List ℕ). y ∷ t) (write-whole d s (omega arith))

@@ -60,6 +60,16 @@ pub const MAX_CHILDREN: usize = 106;
 
 pub const INTERFACES: usize = 128;
 
+// bNumEndpoints and bInterfaceClass of interface 0.
+pub const ENDPOINT_COUNT: usize = 132;
+
+pub const INTERFACE_CLASS: usize = 133;
+
+// bEndpointAddress and bmAttributes of interface 0's first endpoint.
+pub const ENDPOINT_ADDRESS: usize = 202;
+
+pub const ENDPOINT_ATTRIBUTES: usize = 203;
+
 pub const ENDPOINTS: usize = 200;
 
 // memory_copy of roothub.rs: copies src into dst from start on.

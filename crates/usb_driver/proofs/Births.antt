@@ -24,7 +24,7 @@ use Rattle.usb_model.proofs.Functions.{small}
 use Rattle.usb_types.specs.declared.types.Answer.the-variants.{Ok}
 use Rattle.usb_transfer.specs.Runs.{here, Ends}
 use Rattle.usb_transfer.proofs.Steps.{put-then, put-last, put-bytes-fit}
-use Rattle.usb_attach.specs.Child.{resetChanged, placeChild, newChild}
+use Rattle.usb_child.specs.Parts.{resetChanged, placeChild, newChild}
 use Rattle.usb_driver.specs.Bus.{Bus}
 use Rattle.usb_driver.proofs.Reaches.{reached, at-place}
 use Rattle.usb_driver.proofs.Goes.{resets, places}

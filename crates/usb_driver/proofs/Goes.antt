@@ -9,7 +9,7 @@ use Rattle.usb_model.proofs.Walks.{Goes}
 use Rattle.usb_model.proofs.Primitives.{gets, puts, puts-most, puts-child, waits, frames}
 use Rattle.usb_model.proofs.Functions.{small, read-device-descriptor, set-address, configures, read-hub-descriptor, get-status, change-feature, power-on, port-get-status, port-status, reset2, speed-low}
 use Rattle.usb_attach.specs.Parts.{defaultState, addressed, described, enumerated, hubDescribed, hubPowered, hubReady}
-use Rattle.usb_attach.specs.Child.{startChange, resetChanged, placeChild}
+use Rattle.usb_child.specs.Parts.{startChange, resetChanged, placeChild}
 use Rattle.usb_check.specs.Parts.{clearIf, overCurrent, clearChanges, startCheck}
 
 module _ {u : World} {n : ℕ} where

@@ -14,7 +14,7 @@ use Rattle.usb_model.specs.Hub.{clearPortFeature, hubPortConnectionChanged, hub
 use Rattle.usb_model.specs.Attach.{usbAttachDevice}
 use Rattle.usb_transfer.specs.Runs.{Ends}
 use Rattle.usb_attach.specs.Parts.{defaultState, addressed, described, enumerated, hubDescribed, hubPowered, hubReady}
-use Rattle.usb_attach.specs.Child.{startChange, noNewDevice, resetChanged, placeChild, newChild}
+use Rattle.usb_child.specs.Parts.{startChange, noNewDevice, resetChanged, placeChild, newChild}
 use Rattle.usb_check.specs.declared.Due.{Due}
 use Rattle.usb_check.specs.Parts.{clearIf, overCurrent, clearChanges, isDropped, isChanged, startCheck, endCheck}
 

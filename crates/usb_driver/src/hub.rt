@@ -1,9 +1,9 @@
 // device/hub.rs: hub attach, port check and connection change, which call each other and attach; scan; the check of a child.
 use crate::usbd::usb_attach_device;
-use usb_attach::child::new_child;
 use usb_attach::hub::ready_hub;
 use usb_check::end_check;
 use usb_check::start_check;
+use usb_child::new_child;
 use usb_device::hub::load_hub;
 use usb_device::store::HUB;
 use usb_device::store::MAX_CHILDREN;
@@ -148,10 +148,10 @@ pub fn hub_check_for_change(
     requires { ⌜ OnBus hub store log outcomes at ⌝ }
     ensures { λ r. ⌜ ((n m : ℕ) → freePlaces (now (store .entry)) ≤ n → Places ≤ hub + m → Does (Model.hubCheckForChange (attachBelow n) m hub) store log outcomes at r) ⌝ }
 {
-    let count = wide(byte_at(store, hub, MAX_CHILDREN));
+    let ports = wide(byte_at(store, hub, MAX_CHILDREN));
     let mut progress = at;
     let mut port = 0;
-    while port < count {
+    while port < ports {
         let step = scan_port(store, log, outcomes, progress, hub, port);
         let answer = step.answer;
         let Answer::Ok = answer else {

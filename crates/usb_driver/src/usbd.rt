@@ -2,6 +2,7 @@
 use crate::hub::hub_attach;
 use usb_attach::device::enumerate;
 use usb_device::device::POWERED;
+use usb_device::store::INTERFACE_CLASS;
 use usb_device::store::PLACES;
 use usb_device::store::SPEED;
 use usb_device::store::STATUS;
@@ -19,9 +20,6 @@ ghost use Rattle.usb_model.specs.Attach.{attachBelow, usbAttachRootHub};
 ghost use Rattle.usb_model.specs.Kept.{Good};
 ghost use Rattle.usb_transfer.specs.Runs.{here, Ready, Does};
 ghost use Rattle.usb_driver.specs.Bus.{OnBus};
-
-// bInterfaceClass of interface 0.
-const INTERFACE_CLASS: usize = 133;
 
 pub fn usb_attach_device(
     store: &mut [u8],

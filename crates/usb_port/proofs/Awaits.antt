@@ -1,34 +1,27 @@
 -- The status reads of a reset: a turn of each loop, over plain values. Assumes nothing.
 use mathlib.Core.Path.{_≡_, refl, _∙_}
-use mathlib.Core.Bool.{Bool, true, false, not, cond}
+use mathlib.Core.Bool.{Bool, true, false, cond}
 use Prim.Native.Nat.{ℕ, suc, _-_, _<_}
 use native.Mathlib.Omega.{arith}
-use lib.Dec.{eqb}
 use lib.ListN.{length}
 use Rattle.usb_types.specs.declared.types.Answer.{Answer}
-use Rattle.usb_types.specs.declared.types.Answer.the-variants.{Ok, Error, Stop}
+use Rattle.usb_types.specs.declared.types.Answer.the-variants.{Ok}
 use Rattle.usb_device.specs.Layout.{PortStatus}
 use Rattle.usb_device.specs.Access.{numberAt}
 use Rattle.usb_model.specs.Programs.{_>>=_, _>>_, return, look}
 use Rattle.usb_model.specs.World.{World, M, getNumber, microDelay}
 use Rattle.usb_model.specs.Features.{C-PORT-RESET, bit}
-use Rattle.usb_model.specs.Hub.{hubPortGetStatus, portStatus, awaitReset, awaitEnabled}
+use Rattle.usb_model.specs.Hub.{hubPortGetStatus, portStatus, awaitReset}
 use Rattle.usb_transfer.specs.Runs.{Fit, Ends}
 use Rattle.usb_transfer.proofs.Steps.{NotOk, next, next-ended, grouped, grouped-is, then-is, got-number, taken-if, returned, Going, goes-to}
-use Rattle.usb_port.specs.Parts.{delayedStatus, resetOrEnabled, Told}
-
-pub untold : (a : Answer) → NotOk a → Told a false
-unfolding NotOk
-untold Ok n = absurd n
-untold (Error e) n = refl
-untold (Stop h) n = refl
+use Rattle.usb_port.specs.Parts.{delayedStatus}
 
 -- the stored status of a port
 abbrev pub statusIn : World → ℕ → ℕ → ℕ
 statusIn w hub port = numberAt (w .store) hub (PortStatus port) 4
 
 -- the wait and the read, then k on the status
-abbrev reading : {B : Type 0} → ℕ → ℕ → ℕ → (ℕ → M B) → M B
+abbrev pub reading : {B : Type 0} → ℕ → ℕ → ℕ → (ℕ → M B) → M B
 reading hub port us k = microDelay us >> (hubPortGetStatus hub port >> (portStatus hub port >>= k))
 
 module _ {B : Type 0} (hub port us : ℕ) (k : ℕ → M B) {w v : World} where
@@ -48,15 +41,15 @@ module _ {B : Type 0} (hub port us : ℕ) (k : ℕ → M B) {w v : World} where
 module _ (hub port us : ℕ) (await : ℕ → M Bool) (test seen : ℕ → Bool)
     (turn : (n : ℕ) (w : World) → await (suc n) w ≡ reading hub port us (λ status. cond (test status) (return (seen n)) (await n)) w)
     (left n : ℕ) (e : left ≡ suc n) {w v : World} where
-  await-ended : {a : Answer} → Ends (delayedStatus hub port us) w a tt v → NotOk a → Ends (await left) w a false v
+  pub await-ended : {a : Answer} → Ends (delayedStatus hub port us) w a tt v → NotOk a → Ends (await left) w a false v
   await-ended d x = let r = read-ended hub port us _ false d x in rw e (record { is = turn n w ∙ r .is; fit = r .fit })
 
-  await-seen : Ends (delayedStatus hub port us) w Ok tt v → test (statusIn v hub port) ≡ true → Ends (await left) w Ok (seen n) v
+  pub await-seen : Ends (delayedStatus hub port us) w Ok tt v → test (statusIn v hub port) ≡ true → Ends (await left) w Ok (seen n) v
   await-seen d t =
       let r = read-then hub port us (λ status. cond (test status) (return (seen n)) (await n)) d (taken-if (await n) t (returned (seen n) (d .fit))) in
       rw e (record { is = turn n w ∙ r .is; fit = r .fit })
 
-  await-goes : {m : M Bool} {u : World} → Going m u (await left) w → Ends (delayedStatus hub port us) w Ok tt v → test (statusIn v hub port) ≡ false
+  pub await-goes : {m : M Bool} {u : World} → Going m u (await left) w → Ends (delayedStatus hub port us) w Ok tt v → test (statusIn v hub port) ≡ false
       → length (v .store) ≡ length (w .store) → length (v .log) ≡ length (w .log) → Going m u (await n) v
   await-goes g d t = goes-to (rw e at g) (await n) v (turn n w ∙ read-is hub port us _ d ∙ rw t refl) (d .fit)
 
@@ -64,11 +57,7 @@ reset-turn : (hub port n : ℕ) (w : World) → awaitReset (suc n) hub port w �
 unfolding awaitReset
 reset-turn hub port n w = refl
 
-enabled-turn : (hub port n : ℕ) (w : World) → awaitEnabled (suc n) hub port w ≡ reading hub port 20000 (λ status. cond (resetOrEnabled status) (return (not (eqb n 0))) (awaitEnabled n hub port)) w
-unfolding awaitEnabled resetOrEnabled
-enabled-turn hub port n w = refl
-
-some : {left : ℕ} → 0 < left → left ≡ suc (left - 1)
+pub some : {left : ℕ} → 0 < left → left ≡ suc (left - 1)
 some l = omega arith
 
 module _ (hub port left : ℕ) {w v : World} (l : 0 < left) where
@@ -82,21 +71,6 @@ module _ (hub port left : ℕ) {w v : World} (l : 0 < left) where
       → length (v .store) ≡ length (w .store) → length (v .log) ≡ length (w .log) → Going m u (awaitReset (left - 1) hub port) v
   reset-goes = await-goes hub port 50000 (λ n. awaitReset n hub port) (bit C-PORT-RESET) (λ _. true) (reset-turn hub port) left (left - 1) (some l)
 
-  pub enabled-ended : {a : Answer} → Ends (delayedStatus hub port 20000) w a tt v → NotOk a → Ends (awaitEnabled left hub port) w a false v
-  enabled-ended = await-ended hub port 20000 (λ n. awaitEnabled n hub port) resetOrEnabled (λ n. not (eqb n 0)) (enabled-turn hub port) left (left - 1) (some l)
-
-  pub enabled-seen : Ends (delayedStatus hub port 20000) w Ok tt v → resetOrEnabled (statusIn v hub port) ≡ true → Ends (awaitEnabled left hub port) w Ok (not (eqb (left - 1) 0)) v
-  enabled-seen = await-seen hub port 20000 (λ n. awaitEnabled n hub port) resetOrEnabled (λ n. not (eqb n 0)) (enabled-turn hub port) left (left - 1) (some l)
-
-  pub enabled-goes : {m : M Bool} {u : World} → Going m u (awaitEnabled left hub port) w → Ends (delayedStatus hub port 20000) w Ok tt v → resetOrEnabled (statusIn v hub port) ≡ false
-      → length (v .store) ≡ length (w .store) → length (v .log) ≡ length (w .log) → Going m u (awaitEnabled (left - 1) hub port) v
-  enabled-goes = await-goes hub port 20000 (λ n. awaitEnabled n hub port) resetOrEnabled (λ n. not (eqb n 0)) (enabled-turn hub port) left (left - 1) (some l)
-
-module _ (hub port left : ℕ) {w : World} (e : left ≡ 0) (f : Fit w) where
-  pub reset-none : Ends (awaitReset left hub port) w Ok false w
-  unfolding awaitReset return
-  reset-none = rw e (record { is = refl; fit = f })
-
-  pub enabled-none : Ends (awaitEnabled left hub port) w Ok false w
-  unfolding awaitEnabled return
-  enabled-none = rw e (record { is = refl; fit = f })
+pub reset-none : (hub port left : ℕ) {w : World} → left ≡ 0 → Fit w → Ends (awaitReset left hub port) w Ok false w
+unfolding awaitReset return
+reset-none hub port left e f = rw e (record { is = refl; fit = f })

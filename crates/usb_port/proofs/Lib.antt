@@ -1,3 +1,2 @@
 pub mod Awaits
-pub mod Resets
 pub mod Children

@@ -1,18 +1,18 @@
 -- The parts of the model's programs for which the code has functions of their own, and what these promise.
 use mathlib.Core.Path.{_≡_}
-use mathlib.Core.Bool.{Bool, false, not, _&&_, _||_}
+use mathlib.Core.Bool.{Bool, false}
 use mathlib.Core.List.{List}
 use Prim.Native.Nat.{ℕ, _<_}
 use denote.Ref.{now}
-use Rattle.usb_types.specs.declared.types.ErrorCode.the-variants.{Argument, Device}
+use Rattle.usb_types.specs.declared.types.ErrorCode.the-variants.{Argument}
 use Rattle.usb_types.specs.declared.types.Answer.{Answer}
-use Rattle.usb_types.specs.declared.types.Answer.the-variants.{Ok, Error, Stop}
+use Rattle.usb_types.specs.declared.types.Answer.the-variants.{Ok, Error}
 use Rattle.usb_model.specs.declared.Progress.{Progress}
-use Rattle.usb_model.specs.Programs.{_>>=_, _>>_, return, throw, ignore, when}
+use Rattle.usb_model.specs.Programs.{_>>=_, _>>_, ignore}
 use Rattle.usb_model.specs.World.{World, M, microDelay}
-use Rattle.usb_model.specs.Features.{PORT-CONNECTION, PORT-ENABLE, PORT-RESET, C-PORT-CONNECTION, C-PORT-RESET, bit}
-use Rattle.usb_model.specs.Hub.{setPortFeature, clearPortFeature, hubPortGetStatus, portStatus, awaitEnabled, portOfChild}
-use Rattle.usb_transfer.specs.Runs.{here, Fit, Ends, Lent}
+use Rattle.usb_model.specs.Features.{PORT-RESET, C-PORT-RESET}
+use Rattle.usb_model.specs.Hub.{setPortFeature, clearPortFeature, hubPortGetStatus, portOfChild}
+use Rattle.usb_transfer.specs.Runs.{here, Fit, Ends, IfOk, Lent}
 use Rattle.usb_port.specs.declared.Awaited.{Awaited}
 use Rattle.usb_port.specs.declared.ChildPort.{ChildPort}
 use Rattle.usb_port.specs.declared.ChildPort.the-variants.{At, Nowhere}
@@ -29,28 +29,11 @@ resetPort hub port = do
   ignore (clearPortFeature hub C-PORT-RESET port)
   setPortFeature hub PORT-RESET port
 
-unfoldable pub resetOrEnabled : ℕ → Bool
-resetOrEnabled status = bit C-PORT-RESET status || bit PORT-ENABLE status
-
-unfoldable pub isLost : ℕ → Bool
-isLost status = bit C-PORT-CONNECTION status || not (bit PORT-CONNECTION status)
-
--- one try: was the port seen enabled?
-unfoldable pub tryReset : ℕ → ℕ → M Bool
-tryReset hub port = do
-  setPortFeature hub PORT-RESET port
-  seen ← awaitEnabled 10 hub port
-  status ← portStatus hub port
-  when (seen && isLost status) (throw Device)
-  return (seen && bit PORT-ENABLE status)
-
 -- ---- what the functions promise
 
 -- nothing is seen where the answer is not Ok
 abbrev pub Told : Answer → Bool → Type 0
-Told Ok seen = Unit {0}
-Told (Error e) seen = seen ≡ false
-Told (Stop h) seen = seen ≡ false
+Told a seen = IfOk a (Unit {0}) (seen ≡ false)
 
 pub record Seen (m : M Bool) (w : World) (a : Answer) (seen : Bool) (v : World) : Type 0 where
   pub ends : Ends m w a seen v

@@ -20,7 +20,7 @@ use Rattle.usb_device.specs.Layout.{Number, LastTransfer}
 use Rattle.usb_device.specs.Access.{byteAt, withBytes, withNumber}
 use Rattle.usb_model.specs.declared.Progress.{Progress}
 use Rattle.usb_model.specs.declared.Buffer.{Buffer}
-use Rattle.usb_model.specs.Programs.{on, _>>=_, _>>_, return, throw, look, change, succeed, ran}
+use Rattle.usb_model.specs.Programs.{on, _>>=_, _>>_, return, look, change, succeed, ran}
 use Rattle.usb_model.specs.World.{World, get, putBytes, putNumber, logRequest}
 use Rattle.usb_model.specs.Transfer.{takeOutcome, usbControlMessage, control, read}
 use Rattle.usb_transfer.specs.declared.outcome.Header.{Header}
@@ -28,15 +28,17 @@ use Rattle.usb_transfer.specs.declared.outcome.NextOutcome.the-variants.
 use Rattle.usb_transfer.specs.Runs.{here, Fit, gave, dataOf, Given, Gives, Enough, Writes}
 use Rattle.usb_transfer.specs.Outcomes.{Takes}
 use Rattle.usb_transfer.specs.Parts.{pipeOf, kept, passed, handed, lengthOf, receiving}
-use Rattle.usb_transfer.proofs.Steps.{NotOk, bind-is, bound, bound-ended, next, next-ended, got, unless, thrown, returned}
+use Rattle.usb_transfer.proofs.Steps.{NotOk, otherwise, bind-is, bound, bound-ended, next, next-ended, got, unless, thrown, returned}
 use Rattle.usb_transfer.proofs.Logged.{logged}
 
 -- no bytes where the answer is not Ok
 none-given : (a : Answer) (o : List ℕ) (t : ℕ) → NotOk a → Given a o t (lengthOf a 0)
-unfolding NotOk
-none-given Ok o t n = absurd n
-none-given (Error e) o t n = refl
-none-given (Stop h) o t n = refl
+none-given a o t n = otherwise (t + 4 + lengthOf a 0 ≤ length o) a n (none a)
+  where
+    none : (a : Answer) → lengthOf a 0 ≡ 0
+    none Ok = refl
+    none (Error e) = refl
+    none (Stop h) = refl
 
 -- ---- the data of an outcome
 
@@ -141,10 +143,7 @@ pub data-length : (o : List ℕ) (t n : ℕ) → t + 4 + n ≤ length o → leng
 data-length o t n h = omega (arith, length-take n (drop (t + 4) o), length-drop (t + 4) o)
 
 pub none-enough : (a : Answer) (minimum n : ℕ) → NotOk a → Enough a minimum n
-unfolding NotOk
-none-enough Ok minimum n x = absurd x
-none-enough (Error e) minimum n x = tt
-none-enough (Stop h) minimum n x = tt
+none-enough a minimum n x = otherwise (minimum ≤ n) a x tt
 
 module _ (w v : World) (place : ℕ) (request : UsbDeviceRequest) (minimum : ℕ) (buffer : Buffer) (n : ℕ) where
   pub read-ended : (a : Answer) → Gives (control place request buffer) w a n v → NotOk a → Gives (read place request minimum buffer) w a n v

@@ -18,9 +18,9 @@ use Rattle.usb_types.specs.declared.types.Answer.the-variants.{Ok, Error, Stop}
 use Rattle.usb_device.specs.Access.{byteAt, bytesAt, numberAt, withBytes}
 use Rattle.usb_device.proofs.Fields.{with-length}
 use Rattle.usb_model.specs.declared.Progress.{Progress}
-use Rattle.usb_model.specs.Programs.{Ran, done, fail, halt, on, _>>=_, _>>_, return, skip, throw, look, change, ran, succeed, caught, attempt, when, each}
+use Rattle.usb_model.specs.Programs.{Ran, done, fail, halt, on, _>>=_, _>>_, return, skip, throw, look, change, succeed, caught, attempt, when, each}
 use Rattle.usb_model.specs.World.{World, M, get, getBytes, getNumber, putBytes, put}
-use Rattle.usb_transfer.specs.Runs.{here, Fit, gave, Ends}
+use Rattle.usb_transfer.specs.Runs.{here, Fit, gave, Ends, IfOk}
 
 -- ---- what a branch on an answer tells
 
@@ -35,6 +35,13 @@ unfolding NotOk
 not-ok Ok t = ⊎-elim (λ (h : _≡_ {A = ℕ} 0 1). omega arith) (λ (h : _≡_ {A = ℕ} 0 2). omega arith) t
 not-ok (Error e) t = tt
 not-ok (Stop h) t = tt
+
+-- what is said of an answer that is not Ok
+pub otherwise : (p : Type 0) {q : Type 0} (a : Answer) → NotOk a → q → IfOk a p q
+unfolding NotOk
+otherwise p Ok n x = absurd n
+otherwise p (Error e) n x = x
+otherwise p (Stop h) n x = x
 
 -- a step that did not answer Ok ends the run with its answer
 pub on-ended : {A B : Type 0} (a : Answer) (x : A) (y : B) (w : World) (k : A → M B) → NotOk a → on (gave a x w) k ≡ gave a y w

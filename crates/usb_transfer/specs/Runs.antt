@@ -39,11 +39,15 @@ pub record Ends {A : Type 0} (m : M A) (w : World) (a : Answer) (x : A) (v : Wor
 abbrev pub dataOf : List ℕ → ℕ → ℕ → List ℕ
 dataOf outcomes taken n = take n (drop (taken + 4) outcomes)
 
+-- one fact where the answer is Ok, another where it is not
+abbrev pub IfOk : Answer → Type 0 → Type 0 → Type 0
+IfOk Ok p q = p
+IfOk (Error e) p q = q
+IfOk (Stop h) p q = q
+
 -- how many bytes were given: where the answer is Ok, n, which the outcomes have; else none
 abbrev pub Given : Answer → List ℕ → ℕ → ℕ → Type 0
-Given Ok outcomes taken n = taken + 4 + n ≤ length outcomes
-Given (Error e) outcomes taken n = n ≡ 0
-Given (Stop h) outcomes taken n = n ≡ 0
+Given a outcomes taken n = IfOk a (taken + 4 + n ≤ length outcomes) (n ≡ 0)
 
 -- it ran m from w, and gave the first n data bytes of the outcome that stood next
 pub record Gives (m : M (List ℕ)) (w : World) (a : Answer) (n : ℕ) (v : World) : Type 0 where
@@ -52,9 +56,7 @@ pub record Gives (m : M (List ℕ)) (w : World) (a : Answer) (n : ℕ) (v : Worl
 
 -- a read that answers Ok has its minimum
 abbrev pub Enough : Answer → ℕ → ℕ → Type 0
-Enough Ok minimum n = minimum ≤ n
-Enough (Error e) minimum n = Unit {0}
-Enough (Stop h) minimum n = Unit {0}
+Enough a minimum n = IfOk a (minimum ≤ n) (Unit {0})
 
 -- ---- the log alone
 

@@ -1,4 +1,4 @@
-//! Writes the recorded answers of the original to ../vectors.
+//! Writes the recorded answers of the original to ../crates/vectors/data.
 
 #[cfg(not(have_original))]
 fn main() {

@@ -1,11 +1,11 @@
 -- `usb_check::start_check` meets its contract. Assumes nothing.
 use borrow.Author.Needs.{needs}
-use mathlib.Core.Path.{_∙_}
+use mathlib.Core.Path.{refl, _∙_}
 use Rattle.usb_device.proofs.HubRecord.{child-at}
 use Rattle.usb_model.specs.Hub.{portStatus}
-use Rattle.usb_transfer.proofs.Steps.{not-ok, next, next-ended, got, got-number, got-number-as}
+use Rattle.usb_transfer.proofs.Steps.{not-ok, otherwise, next, next-ended, got, got-number, got-number-as}
 use Rattle.usb_check.specs.Parts.{startCheck}
-use Rattle.usb_check.proofs.Checks.{nothing-due, found}
+use Rattle.usb_check.proofs.Checks.{found}
 use Rattle.usb_check.proofs.start_check.Statement.{statement}
 use Rattle.usb_check.proofs.start_check.Tie as tie
 
@@ -13,7 +13,7 @@ returns : tie.Need-returns
 unfolding startCheck portStatus
 returns c =
     let ended = not-ok _ (c .match .keys2) in
-    record { ends = got-number _ _ _ _ (next-ended _ _ (c .before .before .before .before .before .hub-port-get-status .ensures) ended); none = nothing-due _ ended }
+    record { ends = got-number _ _ _ _ (next-ended _ _ (c .before .before .before .before .before .hub-port-get-status .ensures) ended); none = otherwise (Unit {0}) _ ended refl }
 
 returns-2 : tie.Need-returns-2
 unfolding startCheck portStatus
@@ -22,7 +22,7 @@ returns-2 c =
     let read = rw (c .before .before .before .before .before .before .before .before .before .before .before .before .before .before .enum-told .given .1) at (c .before .before .before .before .before .before .before .before .before .before .before .before .before .before .before .before .before .before .before .before .hub-port-get-status .ensures) in
     record {
       ends = got-number _ _ _ _ (next read (got-number-as _ _ _ _ (c .before .before .before .before .before .before .before .before .before .before .before .before .port-status2 .ensures) (got _ _ _ (next-ended _ _ (c .before .before .before .before .before .clear-changes .ensures) ended))));
-      none = nothing-due _ ended;
+      none = otherwise (Unit {0}) _ ended refl;
     }
 
 load-hub-requires : tie.Need-load-hub-requires

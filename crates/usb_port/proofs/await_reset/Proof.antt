@@ -1,12 +1,12 @@
 -- `usb_port::await_reset` meets its contract. The loop's invariant: the reads that are left are the whole. Assumes nothing.
 use borrow.Author.Needs.{needs}
-use mathlib.Core.Path.{sym, _∙_}
+use mathlib.Core.Path.{refl, sym, _∙_}
 use native.Mathlib.Omega.{arith}
 use Rattle.usb_model.specs.Features.{bit}
 use Rattle.usb_model.specs.Hub.{awaitReset}
 use Rattle.usb_transfer.specs.Runs.{here}
-use Rattle.usb_transfer.proofs.Steps.{not-ok, Going, going, ends-with}
-use Rattle.usb_port.proofs.Awaits.{untold, reset-ended, reset-seen, reset-goes, reset-none}
+use Rattle.usb_transfer.proofs.Steps.{not-ok, otherwise, Going, going, ends-with}
+use Rattle.usb_port.proofs.Awaits.{reset-ended, reset-seen, reset-goes, reset-none}
 use Rattle.usb_port.proofs.await_reset.Statement.{statement}
 use Rattle.usb_port.proofs.await_reset.Tie as tie
 
@@ -29,7 +29,7 @@ returns c =
     let ended = not-ok _ (c .match .keys2) in
     record {
       ends = ends-with (read .before .before .before .before .loop .inv) (reset-ended _ _ _ (read .before .before .before .loop-test .taken) (read .delayed-status .ensures) ended);
-      told = untold _ ended;
+      told = otherwise (Unit {0}) _ ended refl;
     }
 
 port-status-requires : tie.Need-port-status-requires Inv-loop μ-loop

@@ -15,7 +15,7 @@ use Rattle.usb_driver.proofs.Births.{born}
 use Rattle.usb_driver.proofs.hub.hub_port_connection_changed.Reads as hub-port-connection-changed
 use Rattle.usb_driver.proofs.+hub-change_if+hub-hub_attach+hub-hub_check_connection+hub-hub_port_connection_changed+usbd-usb_attach_device.Lts-hub-hub_port_connection_changed as hub-port-connection-changed-lts
 use Rattle.usb_driver.proofs.usbd.usb_attach_device.Reads as usb-attach-device
-use Rattle.usb_attach.proofs.child.new_child.Reads as new-child-reads
+use Rattle.usb_child.proofs.new_child.Reads as new-child-reads
 use Rattle.usb_driver.proofs.+hub-change_if+hub-hub_attach+hub-hub_check_connection+hub-hub_port_connection_changed+usbd-usb_attach_device.Proof.Measures.{hub-port-connection-changed-at, usb-attach-device-below}
 
 module _ (t : ℕ) where

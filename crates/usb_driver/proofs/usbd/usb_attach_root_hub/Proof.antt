@@ -4,7 +4,7 @@ use native.Mathlib.Omega.{arith}
 use Rattle.usb_device.proofs.Free.{free-most}
 use Rattle.usb_model.specs.Attach.{usbAttachRootHub}
 use Rattle.usb_transfer.proofs.Steps.{NotOk, bound, bound-ended, put-then}
-use Rattle.usb_attach.proofs.Births.{full, taken}
+use Rattle.usb_child.proofs.Births.{full, taken}
 use Rattle.usb_driver.proofs.Births.{root-born}
 use Rattle.usb_driver.proofs.usbd.usb_attach_root_hub.Statement.{statement}
 use Rattle.usb_driver.proofs.usbd.usb_attach_root_hub.Tie as tie

@@ -1,0 +1,2 @@
+pub mod Polls
+pub mod Tries

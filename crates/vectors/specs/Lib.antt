@@ -1,0 +1,6 @@
+pub mod Sums
+pub mod Numbers
+pub mod Heads
+pub mod Stores
+pub mod Replays
+pub mod Counts

@@ -1,0 +1,227 @@
+// Replays the recorded answers of the original through the calls, and writes how many agreed, by entry point.
+mod head;
+mod replay;
+mod store;
+mod sum;
+mod tally;
+
+use head::HEAD_LEN;
+use head::WALK_HEAD_LEN;
+use head::asked_in;
+use head::fits;
+use head::recorded_in;
+use head::walk_fits;
+use head::walk_in;
+use libc::STDOUT_FILENO;
+use replay::replay;
+use replay::replay_walk;
+use tally::tally;
+use usb_device::store::STORE_LEN;
+ghost use mathlib.Core.Path.{_≡_};
+ghost use lib.ListN.{length};
+ghost use Rattle.usb_device.specs.Layout.{StoreLength};
+ghost use Rattle.vectors.specs.Counts.{OfWalk, SameLengths};
+ghost use Rattle.vectors.specs.Stores.{emptyStore};
+
+const WALK: usize = 7;
+
+// What a file holds next.
+enum Next {
+    Replayed { entry: usize, agrees: bool },
+    End,
+}
+
+// A record that is cut short, or longer than the buffers.
+fn garbled() -> Next
+    ensures { λ r. ⌜ r ≡ Next.End ⌝ }
+{
+    io::write_all(STDOUT_FILENO, b"a record is garbled\n");
+    Next::End
+}
+
+// Reads until the buffer is full.
+fn is_read(fd: i32, buffer: &mut [u8]) -> bool
+    ensures { λ _. ⌜ length (now (buffer .exit)) ≡ length (now (buffer .entry)) ⌝ }
+{
+    io::read_full(fd, buffer) == buffer.len()
+}
+
+// Reads a call of calls.bin and replays it.
+fn next_call(fd: i32, store: &mut [u8]) -> Next
+    requires { ⌜ length (now store) ≡ StoreLength ⌝ }
+    ensures { λ _. ⌜ length (now (store .exit)) ≡ StoreLength ⌝ }
+{
+    let mut head = [0; HEAD_LEN];
+    let got = io::read_full(fd, &mut head);
+    if got == 0 {
+        return Next::End;
+    }
+    if got != HEAD_LEN {
+        return garbled();
+    }
+    let asked = asked_in(&head);
+    if !fits(asked) {
+        return garbled();
+    }
+    let mut edits = io::buffer();
+    let edits_len = asked.edits as usize * 5;
+    if !is_read(fd, &mut edits[..edits_len]) {
+        return garbled();
+    }
+    let mut outcomes = io::large_buffer();
+    let outcomes_len = asked.outcomes_len;
+    if !is_read(fd, &mut outcomes[..outcomes_len]) {
+        return garbled();
+    }
+    let agrees = replay(
+        asked,
+        recorded_in(&head),
+        store,
+        &edits[..edits_len],
+        &outcomes[..outcomes_len],
+    );
+    Next::Replayed {
+        entry: asked.entry as usize,
+        agrees,
+    }
+}
+
+// Reads a walk of walks.bin and replays it.
+fn next_walk(fd: i32) -> Next
+    ensures { λ r. ⌜ OfWalk r ⌝ }
+{
+    let mut head = [0; WALK_HEAD_LEN];
+    let got = io::read_full(fd, &mut head);
+    if got == 0 {
+        return Next::End;
+    }
+    if got != WALK_HEAD_LEN {
+        return garbled();
+    }
+    let walk = walk_in(&head);
+    if !walk_fits(walk) {
+        return garbled();
+    }
+    let mut descriptors = io::large_buffer();
+    let descriptors_len = walk.descriptors_len;
+    if !is_read(fd, &mut descriptors[..descriptors_len]) {
+        return garbled();
+    }
+    Next::Replayed {
+        entry: WALK,
+        agrees: replay_walk(walk, &descriptors[..descriptors_len]),
+    }
+}
+
+fn write_number(before: &[u8], n: u32, after: &[u8])
+    ensures { λ r. ⌜ r ≡ tt ⌝ }
+{
+    io::write_all(STDOUT_FILENO, before);
+    io::print_decimal(STDOUT_FILENO, n as u64);
+    io::write_all(STDOUT_FILENO, after);
+}
+
+// Reads a call or a walk and replays it.
+fn next_record(walks: bool, fd: i32, store: &mut [u8]) -> Next
+    requires { ⌜ length (now store) ≡ StoreLength ⌝ }
+    ensures { λ _. ⌜ length (now (store .exit)) ≡ StoreLength ⌝ }
+{
+    if walks {
+        return next_walk(fd);
+    }
+    next_call(fd, store)
+}
+
+fn empty_store() -> [u8; STORE_LEN]
+    ensures { λ r. ⌜ r ≡ emptyStore ⌝ }
+{
+    [0; STORE_LEN]
+}
+
+// Replays a file; how many numbers of calls that differ are noted.
+fn replay_all(
+    walks: bool,
+    fd: i32,
+    seen: &mut [u32],
+    agreed: &mut [u32],
+    differ: &mut [u32],
+) -> usize
+    ensures { λ _. ⌜ SameLengths (now (seen .entry)) (now (agreed .entry)) (now (differ .entry)) (now (seen .exit)) (now (agreed .exit)) (now (differ .exit)) ⌝ }
+{
+    let mut store = empty_store();
+    let mut noted = 0;
+    let mut n: u32 = 0;
+    while n < u32::MAX {
+        let next = next_record(walks, fd, &mut store);
+        let Next::Replayed { entry, agrees } = next else {
+            return noted;
+        };
+        noted = tally(seen, agreed, differ, entry, agrees, noted, n);
+        n += 1;
+    }
+    noted
+}
+
+fn replay_file(
+    walks: bool,
+    path: &[u8],
+    seen: &mut [u32],
+    agreed: &mut [u32],
+    differ: &mut [u32],
+) -> usize
+    ensures { λ _. ⌜ SameLengths (now (seen .entry)) (now (agreed .entry)) (now (differ .entry)) (now (seen .exit)) (now (agreed .exit)) (now (differ .exit)) ⌝ }
+{
+    let fd = os::open_read(path);
+    if fd < 0 {
+        os::fail(path);
+        return 0;
+    }
+    let noted = replay_all(walks, fd, seen, agreed, differ);
+    libc::close(fd);
+    noted
+}
+
+fn write_count(name: &[u8], agreed: u32, seen: u32)
+    ensures { λ r. ⌜ r ≡ tt ⌝ }
+{
+    write_number(name, agreed, b" of ");
+    write_number(b"", seen, b"\n");
+}
+
+fn write_counts(agreed: [u32; 8], seen: [u32; 8])
+    ensures { λ r. ⌜ r ≡ tt ⌝ }
+{
+    write_count(b"root attach: ", agreed[0], seen[0]);
+    write_count(b"scan: ", agreed[1], seen[1]);
+    write_count(b"port check: ", agreed[2], seen[2]);
+    write_count(b"child reset: ", agreed[3], seen[3]);
+    write_count(b"child check: ", agreed[4], seen[4]);
+    write_count(b"retried reset: ", agreed[5], seen[5]);
+    write_count(b"connection change: ", agreed[6], seen[6]);
+    write_count(b"configuration walk: ", agreed[7], seen[7]);
+}
+
+fn write_differing(name: &[u8], numbers: &[u32], noted: usize)
+    ensures { λ r. ⌜ r ≡ tt ⌝ }
+{
+    let mut i = 0;
+    while i < numbers.len() {
+        if i >= noted {
+            return;
+        }
+        write_number(name, numbers[i], b" differs\n");
+        i += 1;
+    }
+}
+
+fn main() {
+    let mut seen = [0; 8];
+    let mut agreed = [0; 8];
+    let mut calls = [0; 4];
+    let mut walks = [0; 4];
+    let calls_noted = replay_file(false, b"calls.bin", &mut seen, &mut agreed, &mut calls);
+    let walks_noted = replay_file(true, b"walks.bin", &mut seen, &mut agreed, &mut walks);
+    write_counts(agreed, seen);
+    write_differing(b"call ", &calls, calls_noted);
+    write_differing(b"walk ", &walks, walks_noted);
+}
