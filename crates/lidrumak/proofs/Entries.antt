@@ -16,9 +16,7 @@ use Rattle.usb_types.specs.declared.types.Refusal.the-variants.{BadArgument}
 use Rattle.usb_types.specs.declared.types.Answer.{Answer}
 use Rattle.usb_types.specs.declared.types.Answer.the-variants.{Ok, Error, Stop}
 use Rattle.usb_device.specs.Layout.{Places}
-use Rattle.usb_device.specs.Access.{write}
 use Rattle.usb_device.specs.Device.{firstUnused}
-use Rattle.usb_device.proofs.Writes.{write-whole}
 use Rattle.usb_sound.specs.Sound.{Sound}
 use Rattle.usb_model.specs.declared.Progress.{Progress}
 use Rattle.usb_model.specs.World.{World, M}
@@ -66,9 +64,8 @@ accepts v e f = sym e ∙ ap told f
 pub bytes-of : {l : List ℕ} → ((i : ℕ) → Fits w8 (getD l i 0)) → Bytes l
 bytes-of f = record { below = λ i. f i .fits }
 
-module _ (l : Lent) (lengths : length (l .new) ≡ length (l .old)) (s : List ℕ) (copied : s ≡ write (l .new) 0 (l .old)) (at : Progress) (none : at ≡ nothingDone) where
-  pub first-world : here s (l .log) (l .outcomes) at ≡ start l
-  first-world = rw (copied, none, write-whole (l .new) (l .old) lengths)
+pub first-world : (l : Lent) {s : List ℕ} → s ≡ l .old → {at : Progress} → at ≡ nothingDone → here s (l .log) (l .outcomes) at ≡ start l
+first-world l copied none = rw (copied, none)
 
 -- what the functions of the driver ask of it
 pub record Started (w : World) : Type 0 where

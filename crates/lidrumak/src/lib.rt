@@ -6,7 +6,6 @@ pub use reply::Reply;
 use reply::begin;
 use reply::refuse;
 use reply::report;
-use usb_device::store::memory_copy;
 use usb_driver::hub::hub_check_connection;
 use usb_driver::hub::hub_check_connection_device;
 use usb_driver::hub::hub_check_for_change;
@@ -14,6 +13,7 @@ use usb_driver::hub::hub_port_connection_changed;
 use usb_driver::usbd::usb_attach_root_hub;
 use usb_port::hub_child_reset;
 use usb_retry::hub_port_reset;
+use usb_sound::copy_store;
 use usb_types::types::Refusal;
 use usb_types::types::answer_number;
 use usb_types::types::refusal_number;
@@ -43,7 +43,7 @@ pub extern "C" fn lidrumak_root_attach(
     if let Verdict::Refused(refusal) = verdict {
         return refuse(refusal);
     }
-    memory_copy(new, 0, old);
+    copy_store(new, old);
     report(usb_attach_root_hub(new, log, outcomes, begin(), speed as u8))
 }
 
@@ -62,7 +62,7 @@ pub extern "C" fn lidrumak_scan(
     if let Verdict::Refused(refusal) = verdict {
         return refuse(refusal);
     }
-    memory_copy(new, 0, old);
+    copy_store(new, old);
     report(hub_check_for_change(new, log, outcomes, begin(), hub as usize))
 }
 
@@ -82,7 +82,7 @@ pub extern "C" fn lidrumak_port_check(
     if let Verdict::Refused(refusal) = verdict {
         return refuse(refusal);
     }
-    memory_copy(new, 0, old);
+    copy_store(new, old);
     report(hub_check_connection(new, log, outcomes, begin(), hub as usize, port as usize))
 }
 
@@ -102,7 +102,7 @@ pub extern "C" fn lidrumak_child_reset(
     if let Verdict::Refused(refusal) = verdict {
         return refuse(refusal);
     }
-    memory_copy(new, 0, old);
+    copy_store(new, old);
     report(hub_child_reset(new, log, outcomes, begin(), hub as usize, child as usize))
 }
 
@@ -122,7 +122,7 @@ pub extern "C" fn lidrumak_child_check(
     if let Verdict::Refused(refusal) = verdict {
         return refuse(refusal);
     }
-    memory_copy(new, 0, old);
+    copy_store(new, old);
     report(hub_check_connection_device(new, log, outcomes, begin(), hub as usize, child as usize))
 }
 
@@ -142,7 +142,7 @@ pub extern "C" fn lidrumak_retried_reset(
     if let Verdict::Refused(refusal) = verdict {
         return refuse(refusal);
     }
-    memory_copy(new, 0, old);
+    copy_store(new, old);
     report(hub_port_reset(new, log, outcomes, begin(), hub as usize, port as usize))
 }
 
@@ -162,7 +162,7 @@ pub extern "C" fn lidrumak_connection_change(
     if let Verdict::Refused(refusal) = verdict {
         return refuse(refusal);
     }
-    memory_copy(new, 0, old);
+    copy_store(new, old);
     report(hub_port_connection_changed(new, log, outcomes, begin(), hub as usize, port as usize))
 }
 

@@ -8,7 +8,7 @@ use Rattle.usb_types.specs.declared.types.Answer.the-variants.{Ok, Error, Stop}
 use Rattle.usb_model.specs.World.{World, M}
 use Rattle.usb_transfer.specs.Runs.{gave, dataOf, Given, Gives, Enough}
 use Rattle.usb_transfer.proofs.Steps.{NotOk}
-use Rattle.usb_transfer.proofs.Messages.{data-length}
+use Rattle.usb_message.proofs.Messages.{data-length}
 use Rattle.usb_deliver.specs.Deliveries.{partOf, None, Delivered}
 
 pub part-ended : (a : Answer) → NotOk a → (o : List ℕ) (t n : ℕ) → _≡_ {A = List ℕ} [] (partOf a o t n)

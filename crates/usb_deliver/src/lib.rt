@@ -1,15 +1,15 @@
 // A descriptor read that hands back the delivered part of the caller's outcomes.
+use usb_message::Transfer;
+use usb_message::usb_get_descriptor;
 use usb_model::Buffer;
 use usb_model::Progress;
 use usb_transfer::log::Step;
-use usb_transfer::message::Transfer;
-use usb_transfer::message::usb_get_descriptor;
 use usb_transfer::outcome::delivered;
 use usb_types::types::Answer;
 ghost use mathlib.Core.Path.{_≡_};
 ghost use Prim.Native.Nat.{_<_};
 ghost use Rattle.usb_model.specs.Transfer as Model;
-ghost use Rattle.usb_transfer.specs.Parts.{Fits};
+ghost use Rattle.usb_message.specs.Parts.{Fits};
 ghost use Rattle.usb_transfer.specs.Runs.{Given, Ready};
 ghost use Rattle.usb_deliver.specs.Deliveries.{partOf, Delivers};
 

@@ -72,7 +72,7 @@ freeBelow s (suc n) = cond (eqb (byteAt s n Used) 0) 1 0 + freeBelow s n
 abbrev pub freePlaces : List ℕ → ℕ
 freePlaces s = freeBelow s Places
 
--- what put_new_device's helper does: n bytes set to 1, one every step bytes from first on
+-- n bytes set to 1, one every step bytes from first on
 unfoldable pub marked : List ℕ → ℕ → ℕ → ℕ → List ℕ
 marked bytes first step zero = bytes
 marked bytes first step (suc n) = marked (set bytes first 1) (first + step) step n

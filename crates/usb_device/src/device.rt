@@ -7,7 +7,7 @@ use crate::store::PLACES;
 use crate::store::SPEED;
 use crate::store::USED;
 use crate::store::byte_at;
-use crate::store::set_bytes;
+use crate::store::fill_zero;
 ghost use mathlib.Core.Path.{_≡_};
 ghost use Prim.Native.Nat.{_+_, _*_, _≤_, _<_};
 ghost use lib.ListN.{length};
@@ -49,8 +49,8 @@ pub fn first_unused(store: &[u8]) -> usize
 }
 
 // Sets n bytes to 1, one every step bytes from first on: the types of n descriptors.
-fn mark(bytes: &mut [u8; PLACE_LEN], first: usize, step: usize, n: usize)
-    requires { ⌜ (first + n * step < PlaceLength) × (n ≤ 128) × (step < 16) ⌝ }
+fn mark(bytes: &mut [u8], first: usize, step: usize, n: usize)
+    requires { ⌜ (first + n * step < length (now bytes)) × (n ≤ 128) × (step < 16) ⌝ }
     ensures { λ _. ⌜ now (bytes .exit) ≡ marked (now (bytes .entry)) first step n ⌝ }
 {
     let mut i = 0;
@@ -60,12 +60,12 @@ fn mark(bytes: &mut [u8; PLACE_LEN], first: usize, step: usize, n: usize)
     }
 }
 
-// UsbDevice::new as UsbAllocateDevice amends it, at a place.
-pub fn put_new_device(store: &mut [u8], place: usize)
-    requires { ⌜ (length (now store) ≡ StoreLength) × (place < Places) ⌝ }
-    ensures { λ _. ⌜ now (store .exit) ≡ withBytes (now (store .entry)) place 0 (newDevice place) ⌝ }
+// UsbDevice::new as UsbAllocateDevice amends it, over the bytes of its place.
+fn new_device(bytes: &mut [u8], place: usize)
+    requires { ⌜ (length (now bytes) ≡ PlaceLength) × (place < Places) ⌝ }
+    ensures { λ _. ⌜ now (bytes .exit) ≡ newDevice place ⌝ }
 {
-    let mut bytes = [0u8; PLACE_LEN];
+    fill_zero(bytes);
     bytes[USED] = 1;
     bytes[NUMBER] = (place + 1) as u8;
     bytes[SPEED] = FULL;
@@ -75,7 +75,15 @@ pub fn put_new_device(store: &mut [u8], place: usize)
     bytes[20] = 9;
     bytes[MAX_PACKET_SIZE0] = 8;
     bytes[35] = 1;
-    mark(&mut bytes, 129, 9, 8);
-    mark(&mut bytes, 201, 7, 128);
-    set_bytes(store, place, 0, &bytes);
+    mark(bytes, 129, 9, 8);
+    mark(bytes, 201, 7, 128);
+}
+
+pub fn put_new_device(store: &mut [u8], place: usize)
+    requires { ⌜ (length (now store) ≡ StoreLength) × (place < Places) ⌝ }
+    ensures { λ _. ⌜ now (store .exit) ≡ withBytes (now (store .entry)) place 0 (newDevice place) ⌝ }
+{
+    let start = place * PLACE_LEN;
+    let end = start + PLACE_LEN;
+    new_device(&mut store[start..end], place);
 }

@@ -1,7 +1,7 @@
 // Access to the store: 32 places of 1,152 bytes, by place and by the field's offset in it.
 ghost use mathlib.Core.Path.{_≡_};
 ghost use Prim.Native.Nat.{_+_, _≤_, _<_};
-ghost use lib.ListN.{length};
+ghost use lib.ListN.{length, replicate};
 ghost use Rattle.usb_device.specs.Access.{Within, write, byteAt, bytesAt, numberAt, withByte, withBytes, withNumber};
 
 pub const PLACE_LEN: usize = 1152;
@@ -81,6 +81,16 @@ pub fn memory_copy(dst: &mut [u8], start: usize, src: &[u8])
     while j < src.len() {
         dst[start + j] = src[j];
         j += 1;
+    }
+}
+
+pub fn fill_zero(bytes: &mut [u8])
+    ensures { λ _. ⌜ now (bytes .exit) ≡ replicate (length (now (bytes .entry))) 0 ⌝ }
+{
+    let mut i = 0;
+    while i < bytes.len() {
+        bytes[i] = 0;
+        i += 1;
     }
 }
 

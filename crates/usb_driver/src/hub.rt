@@ -56,7 +56,11 @@ pub fn hub_attach(
     }
     Step {
         answer: Answer::Ok,
-        at: progress,
+        at: Progress {
+            logged: progress.logged,
+            taken: progress.taken,
+            requests: progress.requests,
+        },
     }
 }
 
@@ -112,7 +116,11 @@ fn change_if(
     }
     Step {
         answer: Answer::Ok,
-        at,
+        at: Progress {
+            logged: at.logged,
+            taken: at.taken,
+            requests: at.requests,
+        },
     }
 }
 
@@ -162,7 +170,11 @@ pub fn hub_check_for_change(
     }
     Step {
         answer: Answer::Ok,
-        at: progress,
+        at: Progress {
+            logged: progress.logged,
+            taken: progress.taken,
+            requests: progress.requests,
+        },
     }
 }
 
@@ -185,11 +197,11 @@ fn scan_port(
     };
     let child = wide(child_of(load_hub(store, hub), port));
     if child == 0 {
-        return checked;
+        return ignore(checked);
     }
     let place = child - 1;
     if byte_at(store, place, HUB) == 0 {
-        return checked;
+        return ignore(checked);
     }
     let next = checked.at;
     hub_check_for_change(store, log, outcomes, next, place)

@@ -18,7 +18,7 @@ use Rattle.usb_model.specs.World.{World, M}
 use Rattle.usb_model.specs.Usbd.{usbAllocateDevice}
 use Rattle.usb_transfer.specs.Runs.{here, Fit, Ends, dataOf, Gives}
 use Rattle.usb_transfer.proofs.Steps.{NotOk, bound, bound-ended, looked, put-bytes-then, put-bytes-fit, unless, thrown, returned}
-use Rattle.usb_transfer.proofs.Messages.{data-length}
+use Rattle.usb_message.proofs.Messages.{data-length}
 use Rattle.usb_enumerate.specs.Parts.{Counted, placed}
 
 -- a read of which only the number of bytes is given

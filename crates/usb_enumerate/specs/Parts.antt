@@ -12,7 +12,7 @@ use Rattle.usb_device.specs.Device.{Low}
 use Rattle.usb_model.specs.declared.Progress.{Progress}
 use Rattle.usb_model.specs.World.{World, M}
 use Rattle.usb_model.specs.Usbd.{usbAllocateDevice}
-use Rattle.usb_transfer.specs.declared.message.Transfer.{Transfer}
+use Rattle.usb_message.specs.declared.Transfer.{Transfer}
 use Rattle.usb_transfer.specs.Runs.{here, Fit, Ends, Given, Lent}
 
 -- low speed devices have packets of 8 bytes

@@ -4,12 +4,12 @@ use usb_device::store::MAX_CHILDREN;
 use usb_device::store::PORT_STATUS;
 use usb_device::store::POWER_GOOD_DELAY;
 use usb_device::store::byte_at;
+use usb_message::control;
+use usb_message::read;
 use usb_model::Buffer;
 use usb_model::Progress;
 use usb_transfer::log::Step;
 use usb_transfer::log::micro_delay;
-use usb_transfer::message::control;
-use usb_transfer::message::read;
 use usb_types::request::CLEAR_FEATURE;
 use usb_types::request::GET_STATUS;
 use usb_types::request::HUB;
@@ -57,7 +57,11 @@ pub fn ignore(step: Step) -> Step
     let at = step.at;
     Step {
         answer: Answer::Ok,
-        at,
+        at: Progress {
+            logged: at.logged,
+            taken: at.taken,
+            requests: at.requests,
+        },
     }
 }
 
@@ -164,7 +168,11 @@ fn power_ports(
     }
     Step {
         answer: Answer::Ok,
-        at: progress,
+        at: Progress {
+            logged: progress.logged,
+            taken: progress.taken,
+            requests: progress.requests,
+        },
     }
 }
 
@@ -191,7 +199,11 @@ pub fn hub_power_on(
     if byte_at(store, hub, usb_device::store::HUB) != WITH_DESCRIPTOR {
         return Step {
             answer: Answer::Ok,
-            at,
+            at: Progress {
+                logged: at.logged,
+                taken: at.taken,
+                requests: at.requests,
+            },
         };
     }
     let count = wide(byte_at(store, hub, MAX_CHILDREN));

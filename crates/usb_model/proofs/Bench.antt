@@ -1,7 +1,5 @@
--- Document 01, "Prove the M lines together as one computed table": both sides of specs/Bench.antt compute to the same rows. In five
--- parts, because all in one take more steps than antt allows a declaration. Assumes nothing.
-use mathlib.Core.Path.{_≡_, refl, ap₂}
-use mathlib.Core.List.{_++_}
+-- Document 01, "Prove the M lines together as one computed table": both sides of specs/Bench.antt compute to the same rows. Assumes nothing.
+use mathlib.Core.Path.{_≡_, refl}
 use Rattle.usb_types.specs.Outcomes.{listed, errorWord, submitResults, resultOf}
 use Rattle.usb_types.specs.Requests.{directionOf, directionBit, deviceRequest}
 use Rattle.usb_types.specs.Actions.{packetSize}
@@ -18,52 +16,24 @@ use Rattle.usb_model.specs.Usbd.{readDeviceDescriptor, usbReadDeviceDesc
 use Rattle.usb_model.specs.Hub.{hubReadDescriptor, hubGetStatus, hubChangePortFeature, hubPowerOn, hubPortGetStatus, portStatus, awaitReset, hubPortReset2, awaitEnabled, resetTries, hubPortReset, portOfChild, hubChildReset, speedOf, hubPortConnectionChanged, hubCheckConnection, hubCheckConnectionDevice, hubAttach, scanPort, hubCheckForChange}
 use Rattle.usb_model.specs.Attach.{usbAttachDevice, attachBelow, usbAttachRootHub}
 use Rattle.usb_model.specs.Entry.{rootVerdict, hubVerdict, call, rootAttach, scan, portCheck, childReset, childCheck, retriedReset, connectionChange, configurationWalk}
-use Rattle.usb_model.specs.Bench.{rows, shown, walks, vacantHub, rootPlace, devicePlace, attachedStore, damagedStore, walkLines, walkRefusals, attach, firstRequest, hubLines, reset, resetLines, benchLines, again, rootRefusals, entries, hubRefusals, childAndPortRefusals, taken, otherRefusals, addressed, configured, described, powered, hubAndDevice, walkMore, speedLines, attachFull, shortReads, longLines, amended, endpointLines, stopLines, deviceLines, checks, portLines, changes, changeLines, retries, retryLines, childLines, attachLines, hubCallLines, onStores, table, expected}
+use Rattle.usb_model.specs.Bench.{Line, rows, shown, walks, vacantHub, rootPlace, devicePlace, attachedStore, walkLines, attach, firstRequest, hubLines, reset, resetLines, benchLines, table, expected, allRows, table, expected}
 
--- what the lines compute with
-definitions : Unit {0}
-unfolding listed errorWord submitResults resultOf directionOf directionBit deviceRequest packetSize kindOf isHubClass byteAt
-    bytesAt withBytes newDevice firstUnusedFrom
-    oneOf zeros every fieldsSound hubSound placeSound usedSound andThen parentSound markChild markPorts markHubs allSeen
-    treeSound storeSound sound
-    _>>=_ _>>_ return skip throw stop look change succeed attempt ignore when each
-    get getBytes getNumber putBytes put putNumber logAction logRequest microDelay dwcUpdateHostFrameInterval
-    bit
-    takeOutcome usbControlMessage control read usbGetDescriptor
-    interfaceDescriptor endpointDescriptor whole descriptorOf descriptor walkFrom walkAll walk
-    readDeviceDescriptor usbReadDeviceDescriptor usbSetAddress usbSetConfigure usbConfigure usbAllocateDevice
-    hubReadDescriptor hubGetStatus hubChangePortFeature hubPowerOn hubPortGetStatus portStatus awaitReset hubPortReset2
-    awaitEnabled resetTries hubPortReset portOfChild hubChildReset speedOf hubPortConnectionChanged hubCheckConnection
-    hubCheckConnectionDevice hubAttach scanPort hubCheckForChange
-    usbAttachDevice attachBelow usbAttachRootHub
-    rootVerdict hubVerdict call rootAttach scan portCheck childReset childCheck retriedReset connectionChange
-    configurationWalk
-    rows shown walks vacantHub rootPlace devicePlace attachedStore damagedStore walkLines walkRefusals attach firstRequest
-    hubLines reset resetLines benchLines again rootRefusals entries hubRefusals childAndPortRefusals taken otherRefusals
-    addressed configured described powered hubAndDevice walkMore speedLines attachFull shortReads longLines amended endpointLines
-    stopLines deviceLines checks portLines changes changeLines retries retryLines childLines attachLines hubCallLines
-definitions = tt
-
-bench-lines : onStores benchLines (λ line. line .computed) ≡ onStores benchLines (λ line. line .due)
-unfolding definitions
-bench-lines = refl
-
-root-refusals : onStores rootRefusals (λ line. line .computed) ≡ onStores rootRefusals (λ line. line .due)
-unfolding definitions
-root-refusals = refl
-
-other-refusals : onStores otherRefusals (λ line. line .computed) ≡ onStores otherRefusals (λ line. line .due)
-unfolding definitions
-other-refusals = refl
-
-attach-lines : onStores attachLines (λ line. line .computed) ≡ onStores attachLines (λ line. line .due)
-unfolding definitions
-attach-lines = refl
-
-hub-call-lines : onStores hubCallLines (λ line. line .computed) ≡ onStores hubCallLines (λ line. line .due)
-unfolding definitions
-hub-call-lines = refl
+lines : allRows (λ line. line .computed) ≡ allRows (λ line. line .due)
+unfolding
+    listed errorWord submitResults resultOf directionOf directionBit deviceRequest packetSize kindOf isHubClass byteAt
+    bytesAt withBytes newDevice firstUnusedFrom oneOf zeros every fieldsSound hubSound placeSound usedSound andThen
+    parentSound markChild markPorts markHubs allSeen treeSound storeSound sound _>>=_ _>>_ return skip throw stop look
+    change succeed attempt ignore when each get getBytes getNumber putBytes put putNumber logAction logRequest microDelay
+    dwcUpdateHostFrameInterval bit takeOutcome usbControlMessage control read usbGetDescriptor interfaceDescriptor
+    endpointDescriptor whole descriptorOf descriptor walkFrom walkAll walk readDeviceDescriptor usbReadDeviceDescriptor
+    usbSetAddress usbSetConfigure usbConfigure usbAllocateDevice hubReadDescriptor hubGetStatus hubChangePortFeature
+    hubPowerOn hubPortGetStatus portStatus awaitReset hubPortReset2 awaitEnabled resetTries hubPortReset portOfChild
+    hubChildReset speedOf hubPortConnectionChanged hubCheckConnection hubCheckConnectionDevice hubAttach scanPort
+    hubCheckForChange usbAttachDevice attachBelow usbAttachRootHub rootVerdict hubVerdict call rootAttach scan portCheck
+    childReset childCheck retriedReset connectionChange configurationWalk rows shown walks vacantHub rootPlace devicePlace
+    attachedStore walkLines attach firstRequest hubLines reset resetLines benchLines
+lines = refl
 
 pub bench : table ≡ expected
 unfolding table expected
-bench = ap₂ _++_ (ap₂ _++_ (ap₂ _++_ (ap₂ _++_ bench-lines root-refusals) other-refusals) attach-lines) hub-call-lines
+bench = lines

@@ -140,7 +140,7 @@ module _ (s : List ℕ) (r : Sound s) where
   unused-past p l m =
       ⊎-elim (λ z. z) (⊎-elim (λ u. absurd (let k = used-leads p (m, u) in omega (arith, k))) (λ x. absurd x)) (r .used p m)
 
-  zeros-past : (i : ℕ) → getD (drop (firstUnused s * PlaceLength) s) i 0 ≡ 0
+  pub zeros-past : (i : ℕ) → getD (drop (firstUnused s * PlaceLength) s) i 0 ≡ 0
   unfolding byteAt
   zeros-past i =
       getD-drop (firstUnused s * PlaceLength) s i 0

@@ -4,3 +4,4 @@ pub mod Rules
 pub mod Marks
 pub mod Decides
 pub mod Hubs
+pub mod Copies

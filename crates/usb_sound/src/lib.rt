@@ -11,6 +11,8 @@ use usb_device::store::PARENT;
 use usb_device::store::PLACE_LEN;
 use usb_device::store::STORE_LEN;
 use usb_device::store::byte_at;
+use usb_device::store::fill_zero;
+use usb_device::store::memory_copy;
 ghost use mathlib.Core.Path.{_≡_};
 ghost use Prim.Native.Nat.{_≤_};
 ghost use lib.ListN.{length};
@@ -44,4 +46,14 @@ pub fn sound(store: &[u8]) -> bool
         return false;
     }
     store_sound(store, first_unused(store))
+}
+
+// Copies a sound store: its used places, and zeros for the others.
+pub fn copy_store(new: &mut [u8], old: &[u8])
+    requires { ⌜ (length (now new) ≡ length (now old)) × Sound (now old) ⌝ }
+    ensures { λ _. ⌜ now (new .exit) ≡ now (old .entry) ⌝ }
+{
+    let used = first_unused(old) * PLACE_LEN;
+    memory_copy(new, 0, &old[..used]);
+    fill_zero(&mut new[used..]);
 }

@@ -1,4 +1,3 @@
 pub mod Steps
 pub mod Logged
 pub mod Outcomes
-pub mod Messages

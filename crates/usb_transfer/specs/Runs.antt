@@ -12,7 +12,6 @@ use Rattle.usb_model.specs.declared.Progress.{Progress}
 use Rattle.usb_model.specs.Programs.{Ran, done, fail, halt}
 use Rattle.usb_model.specs.World.{World, M}
 use Rattle.usb_transfer.specs.declared.log.Step.{Step}
-use Rattle.usb_transfer.specs.declared.message.Transfer.{Transfer}
 
 abbrev pub here : List ℕ → List ℕ → List ℕ → Progress → World
 here s l o p = record { store = s; log = l; outcomes = o; at = p }
@@ -82,19 +81,7 @@ Ready store log outcomes at = Fit (here (now store) (now log) (now outcomes) at)
 abbrev pub Logs : M (Unit {0}) → Lent → Progress → Step → Type 0
 Logs m log at r = Writes m (now (log .entry)) at (r .answer) (now (log .exit)) (r .at)
 
--- of a function that does not take the log
-abbrev pub Receives : M (List ℕ) → Lent → Lent → Progress → Transfer → Type 0
-Receives m store outcomes at r =
-    (l : List ℕ) → Fit (here (now (store .entry)) l (now (outcomes .entry)) at)
-    → Gives m (here (now (store .entry)) l (now (outcomes .entry)) at) (r .step .answer) (r .len)
-    (here (now (store .exit)) l (now (outcomes .entry)) (r .step .at))
-
 abbrev pub Does : M (Unit {0}) → Lent → Lent → Lent → Progress → Step → Type 0
 Does m store log outcomes at r =
     Ends m (here (now (store .entry)) (now (log .entry)) (now (outcomes .entry)) at) (r .answer) tt
     (here (now (store .exit)) (now (log .exit)) (now (outcomes .entry)) (r .at))
-
-abbrev pub Transfers : M (List ℕ) → Lent → Lent → Lent → Progress → Transfer → Type 0
-Transfers m store log outcomes at r =
-    Gives m (here (now (store .entry)) (now (log .entry)) (now (outcomes .entry)) at) (r .step .answer) (r .len)
-    (here (now (store .exit)) (now (log .exit)) (now (outcomes .entry)) (r .step .at))

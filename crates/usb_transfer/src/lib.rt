@@ -1,4 +1,3 @@
-// usbd.rs, the transfer: the log of actions, the outcomes, the control message and the descriptor read.
+// usbd.rs, the transfer: the log of actions and the outcomes.
 pub mod log;
-pub mod message;
 pub mod outcome;

@@ -166,6 +166,9 @@ pub fn error_word(error: u8) -> u32
     requires { ⌜ error < 32 ⌝ }
     ensures { λ r. ⌜ r ≡ errorWord error ⌝ }
 {
+    if error == 0 {
+        return 0;
+    }
     let bit = error as usize;
     ERROR_WORDS[bit]
 }

@@ -1,30 +1,21 @@
 // The stores of a sequence of calls.
 use crate::head::Asked;
 use crate::head::u32_at;
+use usb_device::store::fill_zero;
 use usb_device::store::memory_copy;
 ghost use mathlib.Core.Path.{_≡_};
 ghost use Prim.Native.Nat.{_*_, _≤_};
-ghost use lib.ListN.{length, set, replicate};
+ghost use lib.ListN.{length, set};
 ghost use Rattle.usb_device.specs.Layout.{StoreLength};
 ghost use Rattle.vectors.specs.Stores.{resized, edited, storeBefore, oldStore, storeAfter};
 
 const EDIT_LEN: usize = 5;
 
-fn clear(bytes: &mut [u8])
-    ensures { λ _. ⌜ now (bytes .exit) ≡ replicate (length (now (bytes .entry))) 0 ⌝ }
-{
-    let mut i = 0;
-    while i < bytes.len() {
-        bytes[i] = 0;
-        i += 1;
-    }
-}
-
 // Copies src into dst: cut to dst's length, or with zeros up to it.
 fn resize(dst: &mut [u8], src: &[u8])
     ensures { λ _. ⌜ now (dst .exit) ≡ resized (length (now (dst .entry))) (now (src .entry)) ⌝ }
 {
-    clear(dst);
+    fill_zero(dst);
     let n = dst.len();
     if src.len() <= n {
         memory_copy(dst, 0, src);
@@ -61,7 +52,7 @@ pub fn begin(asked: Asked, store: &mut [u8])
     ensures { λ _. ⌜ now (store .exit) ≡ storeBefore asked (now (store .entry)) ⌝ }
 {
     if asked.flags % 2 == 1 {
-        clear(store);
+        fill_zero(store);
     }
 }
 

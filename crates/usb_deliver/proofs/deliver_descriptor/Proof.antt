@@ -47,22 +47,22 @@ use Rattle.usb_model.proofs.Buffer as Bu
 use Rattle.usb_model.proofs.Buffer.Laws as Bu′
 use Rattle.usb_model.specs.World.{M as Prog}
 use Rattle.usb_model.specs.Transfer as Model
-use Rattle.usb_transfer.specs.Parts.{Fits}
+use Rattle.usb_message.specs.Parts.{Fits}
 use Rattle.usb_transfer.specs.Runs.{here, Fit, Gives, Enough}
-use Rattle.usb_transfer.specs.declared.message.Transfer.{Transfer}
+use Rattle.usb_message.specs.declared.Transfer.{Transfer}
 use Rattle.usb_deliver.specs.declared.Delivery.{Delivery}
 use Rattle.usb_deliver.specs.Deliveries.{partOf}
 use Rattle.usb_deliver.proofs.Deliveries.{delivers}
 use Rattle.usb_transfer.proofs.log.Step as St
 use Rattle.usb_transfer.proofs.log.Step.Laws as St′
-use Rattle.usb_transfer.proofs.message.Transfer as Tr
-use Rattle.usb_transfer.proofs.message.Transfer.Laws as Tr′
+use Rattle.usb_message.proofs.Transfer as Tr
+use Rattle.usb_message.proofs.Transfer.Laws as Tr′
 use Rattle.usb_deliver.proofs.Delivery as T
 use Rattle.usb_deliver.proofs.Delivery.Laws as T′
-use Rattle.usb_transfer.proofs.message.usb_get_descriptor as ask
-use Rattle.usb_transfer.proofs.message.usb_get_descriptor.Symbol as ask-def
-use Rattle.usb_transfer.proofs.message.usb_get_descriptor.Symbol.{name as #ask}
-use Rattle.usb_transfer.proofs.message.usb_get_descriptor.Met as ask-thm
+use Rattle.usb_message.proofs.usb_get_descriptor as ask
+use Rattle.usb_message.proofs.usb_get_descriptor.Symbol as ask-def
+use Rattle.usb_message.proofs.usb_get_descriptor.Symbol.{name as #ask}
+use Rattle.usb_message.proofs.usb_get_descriptor.Met as ask-thm
 use Rattle.usb_deliver.proofs.part as part
 use Rattle.usb_deliver.proofs.part.Symbol as part-def
 use Rattle.usb_deliver.proofs.part.Symbol.{name as #part}
@@ -268,5 +268,5 @@ deliver-descriptor-spec 𝓤 H 𝓜 𝓖 𝓡 =
     entered 𝓤 H (tripleOf 𝓤 H (𝓖 .A) self.signature (self.spec 𝓤 H (𝓖 .A) (𝓜 .mem) (𝓡 .run)))
     (tables 𝓤 H 𝓜 𝓡 code.env .C) (tables 𝓤 H 𝓜 𝓡 code.env .Λ) #self code.function (code.unfolded 𝓤 H 𝓜 𝓡)
     (self-meets 𝓤 H (𝓖 .A) (givenOf 𝓤 H 𝓜 𝓖) (𝓜 .mem) (𝓡 .run) (tablesOf 𝓤 H 𝓜 (tables 𝓤 H 𝓜 𝓡 code.env))
-    (cited 𝓤 H (Asked 𝓤 H (𝓖 .A) (𝓜 .mem) (𝓡 .run)) 𝓜 𝓡 code.env #ask ask-def.routine code.calls-usb-transfer·message·usb-get-descriptor (ask-thm.met 𝓤 H 𝓜 𝓖 𝓡))
+    (cited 𝓤 H (Asked 𝓤 H (𝓖 .A) (𝓜 .mem) (𝓡 .run)) 𝓜 𝓡 code.env #ask ask-def.routine code.calls-usb-message·usb-get-descriptor (ask-thm.met 𝓤 H 𝓜 𝓖 𝓡))
     (cited 𝓤 H (Part 𝓤 H (𝓖 .A) (𝓜 .mem) (𝓡 .run)) 𝓜 𝓡 code.env #part part-def.routine code.calls-usb-deliver·part (part-thm.met 𝓤 H 𝓜 𝓖 𝓡)))

@@ -21,4 +21,4 @@ pub +hub-check-for-change+scan-port-spec : {M : Type 1} → statement M
     (λ t. hub-check-for-change-lts.spec (hub-check-for-change-needs.calls t) (hub-check-for-change-at t) hub-check-for-change.Post (hub-check-for-change-needs.Inv-loop t) (hub-check-for-change-needs.μ-loop t)
     (hub-check-for-change-needs.byte-at-requires t) (hub-check-for-change-needs.wide-requires t) (hub-check-for-change-needs.loop-holds t) (hub-check-for-change-needs.scan-port-requires t) (hub-check-for-change-needs.enum-told t) (hub-check-for-change-needs.same-length t) (hub-check-for-change-needs.same-length-2 t) (hub-check-for-change-needs.returns t) (hub-check-for-change-needs.add-port t) (hub-check-for-change-needs.loop-less t) (hub-check-for-change-needs.loop-again t) (hub-check-for-change-needs.same-length-3 t) (hub-check-for-change-needs.same-length-4 t) (hub-check-for-change-needs.returns-2 t))
     (λ t. scan-port-lts.spec (scan-port-needs.calls t) (scan-port-at t) scan-port.Post
-    (scan-port-needs.hub-check-connection-requires t) (scan-port-needs.enum-told t) (scan-port-needs.ignore-requires t) (scan-port-needs.same-length t) (scan-port-needs.same-length-2 t) (scan-port-needs.returns t) (scan-port-needs.load-hub-requires t) (scan-port-needs.child-of-requires t) (scan-port-needs.wide-requires t) (scan-port-needs.same-length-3 t) (scan-port-needs.same-length-4 t) (scan-port-needs.returns-2 t) (scan-port-needs.sub-place t) (scan-port-needs.byte-at-requires t) (scan-port-needs.same-length-5 t) (scan-port-needs.same-length-6 t) (scan-port-needs.returns-3 t) (scan-port-needs.hub-check-for-change-requires t) (scan-port-needs.same-length-7 t) (scan-port-needs.same-length-8 t) (scan-port-needs.returns-4 t))
+    (scan-port-needs.hub-check-connection-requires t) (scan-port-needs.enum-told t) (scan-port-needs.ignore-requires t) (scan-port-needs.same-length t) (scan-port-needs.same-length-2 t) (scan-port-needs.returns t) (scan-port-needs.load-hub-requires t) (scan-port-needs.child-of-requires t) (scan-port-needs.wide-requires t) (scan-port-needs.ignore-requires-2 t) (scan-port-needs.same-length-3 t) (scan-port-needs.same-length-4 t) (scan-port-needs.returns-2 t) (scan-port-needs.sub-place t) (scan-port-needs.byte-at-requires t) (scan-port-needs.ignore-requires-3 t) (scan-port-needs.same-length-5 t) (scan-port-needs.same-length-6 t) (scan-port-needs.returns-3 t) (scan-port-needs.hub-check-for-change-requires t) (scan-port-needs.same-length-7 t) (scan-port-needs.same-length-8 t) (scan-port-needs.returns-4 t))

@@ -16,8 +16,12 @@ words =
     ∷ 536870912 ∷ 1073741824 ∷ 2147483648 ∷ []
 
 returns : tie.Need-returns
+unfolding errorWord
+returns c = simp (c .if1 .taken)
+
+returns-2 : tie.Need-returns-2
 unfolding words errorWord
-returns c = eqb→eq _ _ (rule (λ bit word. eqb word (errorWord bit)) words tt _ (c .pre) 0)
+returns-2 c = eqb→eq _ _ (rule (λ bit word. eqb word (errorWord bit)) words tt _ (c .before .pre) 0)
 
 pub error-word-spec : {M : Type 1} → statement M
-error-word-spec = tie.close (tie.spec (λ c. search needs) (λ c. search needs) returns)
+error-word-spec = tie.close (tie.spec returns (λ c. search needs) (λ c. search needs) returns-2)

@@ -5,7 +5,7 @@ use Rattle.vectors.proofs.store.begin.Statement.{statement}
 use Rattle.vectors.proofs.store.begin.Tie as tie
 
 returns : tie.Need-returns
-returns c = begins _ _ _ (c .before .before .before .before .if1 .taken) (c .before .before .before .before .before .before .before .pre) (c .before .before .clear .ensures)
+returns c = begins _ _ _ (c .before .before .before .before .if1 .taken) (c .before .before .before .before .before .before .before .pre) (c .before .before .fill-zero .ensures)
 
 returns-2 : tie.Need-returns-2
 returns-2 c = goes-on _ _ (c .if1 .left)

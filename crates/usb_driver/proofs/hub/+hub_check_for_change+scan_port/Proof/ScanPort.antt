@@ -52,6 +52,9 @@ module _ (t : ℕ) where
   pub wide-requires : scan-port-lts.Need-wide-requires calls (scan-port-at t) scan-port.Post
   wide-requires c κs = search needs
 
+  pub ignore-requires-2 : scan-port-lts.Need-ignore-requires-2 calls (scan-port-at t) scan-port.Post
+  ignore-requires-2 c κs = search needs
+
   pub same-length-3 : scan-port-lts.Need-same-length-3 calls (scan-port-at t) scan-port.Post
   same-length-3 c = search needs
 
@@ -60,9 +63,9 @@ module _ (t : ℕ) where
 
   pub returns-2 : scan-port-lts.Need-returns-2 calls (scan-port-at t) scan-port.Post
   returns-2 c n m h l =
-      let ok = c .before .before .before .before .before .enum-told .given .1 in
-      let stands = rw (c .before .before .before .load-hub .ensures, child-at _ _ _ (c .before .before .before .before .before .before .before .before .before .before .before .before .before .before .before .before .before .pre .1 .1)) at (c .before .wide .ensures .0 ∙ c .before .before .child-of .ensures) in
-      rw ok (passes-none _ _ _ _ (rw ok at (c .before .before .before .before .before .before .before .before .before .before .before .hub-check-connection .ensures n h)) stands (c .if1 .taken))
+      let ok = c .before .before .before .before .before .before .enum-told .given .1 in
+      let stands = rw (c .before .before .before .before .load-hub .ensures, child-at _ _ _ (c .before .before .before .before .before .before .before .before .before .before .before .before .before .before .before .before .before .before .pre .1 .1)) at (c .before .before .wide .ensures .0 ∙ c .before .before .before .child-of .ensures) in
+      rw (c .ignore2 .ensures, ok) (passes-none _ _ _ _ (rw ok at (c .before .before .before .before .before .before .before .before .before .before .before .before .hub-check-connection .ensures n h)) stands (c .before .if1 .taken))
 
   pub sub-place : scan-port-lts.Need-sub-place calls (scan-port-at t) scan-port.Post
   sub-place c = search needs
@@ -74,6 +77,9 @@ module _ (t : ℕ) where
       let b = child-bus _ _ _ (k .bus) (c .before .before .before .before .before .before .before .before .before .before .before .before .before .before .before .before .before .before .pre .1 .1) stands (c .before .if1 .left) .1 in
       record { whole = b .fit .whole; inside = b .inside; room = omega arith }
 
+  pub ignore-requires-3 : scan-port-lts.Need-ignore-requires-3 calls (scan-port-at t) scan-port.Post
+  ignore-requires-3 c κs = search needs
+
   pub same-length-5 : scan-port-lts.Need-same-length-5 calls (scan-port-at t) scan-port.Post
   same-length-5 c = search needs
 
@@ -82,9 +88,9 @@ module _ (t : ℕ) where
 
   pub returns-3 : scan-port-lts.Need-returns-3 calls (scan-port-at t) scan-port.Post
   returns-3 c n m h l =
-      let ok = c .before .before .before .before .before .before .before .before .enum-told .given .1 in
-      let stands = rw (c .before .before .before .before .before .before .load-hub .ensures, child-at _ _ _ (c .before .before .before .before .before .before .before .before .before .before .before .before .before .before .before .before .before .before .before .before .pre .1 .1)) at (c .before .before .before .before .wide .ensures .0 ∙ c .before .before .before .before .before .child-of .ensures) in
-      rw ok (passes-no-hub _ _ _ _ (rw ok at (c .before .before .before .before .before .before .before .before .before .before .before .before .before .before .hub-check-connection .ensures n h)) stands (c .before .before .before .if1 .left) (sym (c .before .byte-at .ensures) ∙ c .if2 .taken))
+      let ok = c .before .before .before .before .before .before .before .before .before .enum-told .given .1 in
+      let stands = rw (c .before .before .before .before .before .before .before .load-hub .ensures, child-at _ _ _ (c .before .before .before .before .before .before .before .before .before .before .before .before .before .before .before .before .before .before .before .before .before .pre .1 .1)) at (c .before .before .before .before .before .wide .ensures .0 ∙ c .before .before .before .before .before .before .child-of .ensures) in
+      rw (c .ignore3 .ensures, ok) (passes-no-hub _ _ _ _ (rw ok at (c .before .before .before .before .before .before .before .before .before .before .before .before .before .before .before .hub-check-connection .ensures n h)) stands (c .before .before .before .before .if1 .left) (sym (c .before .before .byte-at .ensures) ∙ c .before .if2 .taken))
 
   pub hub-check-for-change-requires : scan-port-lts.Need-hub-check-for-change-requires calls (scan-port-at t) scan-port.Post
   hub-check-for-change-requires c κs =
