@@ -46,9 +46,14 @@ impl Bus {
 
     /// The bus that a sound store holds.
     pub fn from_store(store: &[u8]) -> Result<Bus, Outside> {
-        if let Some(outside) = outside::stored_enums(store) {
-            return Err(outside);
+        match outside::stored_enums(store) {
+            Some(outside) => Err(outside),
+            None => Ok(Bus::from_listed(store)),
         }
+    }
+
+    /// The same, of a store whose descriptors have listed enum bytes.
+    pub fn from_listed(store: &[u8]) -> Bus {
         let bus = Bus::empty();
         for at in (0..PLACES).filter(|&at| is_used(store, at)) {
             bus.add(at, place(store, at));
@@ -56,7 +61,7 @@ impl Bus {
         for at in (0..PLACES).filter(|&at| is_used(store, at)) {
             bus.link(at, place(store, at));
         }
-        Ok(bus)
+        bus
     }
 
     pub fn as_ptr(&self) -> *mut UsbBus {

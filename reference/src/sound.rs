@@ -71,6 +71,7 @@ fn has_its_parent(at: usize, place: &[u8], standing: Option<(usize, usize)>) -> 
     }
 }
 
+/// Without an early exit, so that it is compiled to vector instructions.
 fn is_zero(bytes: &[u8]) -> bool {
-    bytes.iter().all(|&byte| byte == 0)
+    bytes.iter().fold(0, |all, byte| all | byte) == 0
 }
