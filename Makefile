@@ -4,7 +4,7 @@ LIBRARY = target/staticlib/liblidrumak.a
 BUSRUN = target/bin/busrun
 SOURCES := crates.txt $(shell find crates -name '*.rt' -o -name '*.antt')
 
-.PHONY: run test reference port compare vectors record
+.PHONY: run test reference port compare rust c-example vectors record bench bench-count
 
 # The bus of a bench start is attached: each action, 16 bytes a line, with what it means. Then the store that the original left after the
 # same start: is it sound, and how many devices does it hold?
@@ -17,7 +17,7 @@ run:
 # All tests. The last line is that of rt ci: 'N passed, 0 failed'.
 test:
 	@$(MAKE) --no-print-directory -j2 reference port
-	@$(MAKE) --no-print-directory compare
+	@$(MAKE) --no-print-directory -j2 compare rust
 	@rt fmt --check
 	@rt ci
 
@@ -43,6 +43,15 @@ compare: port
 	@cd comparison && $(CARGO) run --release --bin compare_walks $(N)
 	@cd comparison && $(CARGO) run --release --bin compare_calls $(N)
 
+# The Rust crate: its tests, its examples, those of its documentation, and the C example.
+rust: port
+	@cd rust && MAKEFLAGS= $(CARGO) test --release
+
+# The C example on the outcomes of a bench start.
+c-example: port
+	@cc -std=c99 -Wall -Wextra -Werror -Iinclude examples/c/attach.c $(LIBRARY) -o target/attach
+	@target/attach < samples/bench_start.outcomes
+
 # Replays the recorded answers through the port.
 vectors:
 	@rt check vectors
@@ -52,3 +61,10 @@ vectors:
 record:
 	@cd reference && $(CARGO) run --release --bin record
 	@cd reference && $(CARGO) run --release --bin bench_start
+
+# The original and the port in one run, timed. 'make bench-count' counts instructions instead, and needs valgrind.
+bench: port
+	@cd bench && $(CARGO) run --release
+
+bench-count: port
+	@cd bench && $(CARGO) run --release -- --count
