@@ -16,8 +16,7 @@ run:
 
 # All tests. The last line is that of rt ci: 'N passed, 0 failed'.
 test:
-	@$(MAKE) --no-print-directory -j2 reference port
-	@$(MAKE) --no-print-directory -j2 compare rust
+	@$(MAKE) --no-print-directory -j2 reference rust compare
 	@rt fmt --check
 	@rt ci
 
@@ -44,11 +43,11 @@ compare: port
 	@cd comparison && $(CARGO) run --release --bin compare_calls $(N)
 
 # The Rust crate: its tests, its examples, those of its documentation, and the C example.
-rust: port
+rust: $(LIBRARY)
 	@cd rust && MAKEFLAGS= $(CARGO) test --release
 
 # The C example on the outcomes of a bench start.
-c-example: port
+c-example: $(LIBRARY)
 	@cc -std=c99 -Wall -Wextra -Werror -Iinclude examples/c/attach.c $(LIBRARY) -o target/attach
 	@target/attach < samples/bench_start.outcomes
 
@@ -63,8 +62,8 @@ record:
 	@cd reference && $(CARGO) run --release --bin bench_start
 
 # The original and the port in one run, timed. 'make bench-count' counts instructions instead, and needs valgrind.
-bench: port
+bench: $(LIBRARY)
 	@cd bench && $(CARGO) run --release
 
-bench-count: port
+bench-count: $(LIBRARY)
 	@cd bench && $(CARGO) run --release -- --count
