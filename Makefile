@@ -1,7 +1,11 @@
 # The two commands of the README: make run, make test. The others are named where they are used.
 CARGO = cargo --quiet
-LIBRARY = target/staticlib/liblidrumak.a
-BUSRUN = target/bin/busrun
+# where the library and busrun are proved and built
+TREE = .
+LIBRARY = $(TREE)/target/staticlib/liblidrumak.a
+BUSRUN = $(TREE)/target/bin/busrun
+export LIDRUMAK_LIBRARY = $(abspath $(TREE)/target/staticlib)
+export LIDRUMAK_BUSRUN = $(abspath $(BUSRUN))
 SOURCES := crates.txt $(shell find crates -name '*.rt' -o -name '*.antt')
 
 .PHONY: run test reference port compare rust c-example vectors record bench bench-count
@@ -16,9 +20,7 @@ run:
 
 # All tests. The last line is that of rt ci: 'N passed, 0 failed'.
 test:
-	@$(MAKE) --no-print-directory -j2 reference rust compare
-	@rt fmt --check
-	@rt ci
+	@./test.sh
 
 # The original, with its stand-ins: unit tests, the bench lines, 200,000 random calls.
 reference:
@@ -30,10 +32,10 @@ reference:
 port: $(LIBRARY) $(BUSRUN)
 
 $(LIBRARY): $(SOURCES)
-	@rt staticlib lidrumak
+	@cd $(TREE) && rt staticlib lidrumak
 
 $(BUSRUN): $(LIBRARY)
-	@rt check busrun
+	@cd $(TREE) && rt check busrun
 
 # The port beside the original: the recorded calls and walks, tables made by hand, busrun, 1,000,000 random walks and 200,000
 # random calls. 'make compare N=1000000' gives the number of both.

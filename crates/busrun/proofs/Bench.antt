@@ -1,11 +1,12 @@
 -- Document 01's bench table, the line "M no outcomes: .. `busrun` writes `01 00 01 00 03 00 00 00 80 06 00 01 00 00 12 00`". Assumes nothing.
 use mathlib.Core.Path.{_≡_, refl}
-use mathlib.Core.List.{List, [], _∷_}
+use mathlib.Core.List.{[], _∷_}
 use Rattle.usb_types.specs.Requests.{directionOf, directionBit, deviceRequest}
 use Rattle.usb_types.specs.Actions.{packetSize}
-use Rattle.usb_device.specs.Access.{byteAt, bytesAt, withBytes}
+use Rattle.usb_store.specs.Access.{byteAt, bytesAt, withBytes}
 use Rattle.usb_device.specs.Device.{newDevice, firstUnusedFrom}
-use Rattle.usb_sound.specs.Test.{oneOf, zeros, every, fieldsSound, hubSound, placeSound, usedSound, andThen, parentSound, markChild, markPorts, markHubs, allSeen, treeSound, storeSound, sound}
+use Rattle.usb_place.specs.Test.{oneOf, zeros, every, fieldsSound, hubSound, placeSound, usedSound}
+use Rattle.usb_sound.specs.Test.{andThen, parentSound, markChild, markPorts, markHubs, allSeen, treeSound, storeSound, sound}
 use Rattle.usb_model.specs.Programs.{_>>=_, _>>_, return, skip, throw, stop, look, change, attempt, when}
 use Rattle.usb_model.specs.World.{get, getBytes, getNumber, putBytes, put, putNumber, logAction, logRequest}
 use Rattle.usb_model.specs.Transfer.{takeOutcome, usbControlMessage, control, read, usbGetDescriptor}

@@ -1,16 +1,16 @@
 -- The actions of a log, counted from its start, over plain values. Assumes nothing.
 use mathlib.Core.Path.{_≡_, refl, sym, ap, _∙_}
 use mathlib.Core.List.{List}
-use Prim.Native.Nat.{ℕ, zero, suc, _+_, _-_, _*_, _≤_, _<_}
+use Prim.Native.Nat.{ℕ, suc, _+_, _-_, _*_, _≤_, _<_}
 use native.Mathlib.Omega.{arith}
 use borrow.Author.Tests.{eq-eqb, ne-eqb}
 use lib.ListN.{length, getD, take, drop, replicate, length-take, length-replicate}
 use lib.Seq.{getD-drop, drop-drop}
-use Rattle.usb_device.specs.Layout.{StoreLength}
+use Rattle.usb_store.specs.Layout.{StoreLength}
 use Rattle.usb_model.specs.Entry.{Left, rootAttach}
 use Rattle.io.specs.Counts.{Counts}
-use Rattle.lidrumak.specs.declared.reply.Reply.{Reply}
-use Rattle.lidrumak.specs.Replies.{lent, left}
+use Rattle.usb_entry.specs.declared.reply.Reply.{Reply}
+use Rattle.usb_entry.specs.Replies.{lent, left}
 use Rattle.busrun.specs.Run.{LogLength, actionsIn, logged, attached, busrun}
 
 module _ (log : List ℕ) (n : ℕ) (l : n < 4096) where

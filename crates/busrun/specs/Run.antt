@@ -4,9 +4,10 @@ use mathlib.Core.List.{List}
 use Prim.Native.Nat.{ℕ, zero, suc, _+_, _*_}
 use lib.Dec.{eqb}
 use lib.ListN.{getD, take, drop, replicate}
-use Rattle.usb_device.specs.Layout.{StoreLength}
+use Rattle.usb_types.specs.Actions.{ActionLength}
+use Rattle.usb_store.specs.Layout.{emptyStore}
 use Rattle.usb_model.specs.Entry.{Left, rootAttach}
-use Rattle.lidrumak.specs.Replies.{lent}
+use Rattle.usb_entry.specs.Replies.{lent}
 
 abbrev pub LogLength : ℕ
 LogLength = 65536
@@ -14,15 +15,15 @@ LogLength = 65536
 -- how many actions stand at the start of a log, at most n: "kind (1 request, 2 wait, 3 ..)", and 0 where none was logged
 unfoldable pub actionsIn : ℕ → List ℕ → ℕ
 actionsIn zero log = 0
-actionsIn (suc n) log = cond (eqb (getD log 0 0) 0) 0 (actionsIn n (drop 16 log) + 1)
+actionsIn (suc n) log = cond (eqb (getD log 0 0) 0) 0 (actionsIn n (drop ActionLength log) + 1)
 
 -- the bytes of the actions that a log of zeros got
 unfoldable pub logged : List ℕ → List ℕ
-logged log = take (actionsIn 4096 log * 16) log
+logged log = take (actionsIn 4096 log * ActionLength) log
 
 -- "attaches an empty store at speed 0", "and has a log of 65,536"
 unfoldable pub attached : List ℕ → Left
-attached outcomes = rootAttach 0 (lent (replicate StoreLength 0) (replicate StoreLength 0) outcomes (replicate LogLength 0))
+attached outcomes = rootAttach 0 (lent emptyStore emptyStore outcomes (replicate LogLength 0))
 
 -- "writes the log bytes"
 unfoldable pub busrun : List ℕ → List ℕ

@@ -7,7 +7,7 @@ use native.Mathlib.Omega.{arith}
 use borrow.Author.Tests.{ltb-false}
 use Rattle.usb_types.specs.Answers.{haltNumber}
 use Rattle.usb_types.specs.declared.types.Halt.{Halt}
-use Rattle.usb_model.specs.Programs.{Ran, done, fail, halt}
+use Rattle.usb_model.specs.Programs.{Ran, done, fail, halt, endOf}
 use Rattle.usb_model.specs.World.{World}
 use Rattle.usb_model.specs.Attach.{attachNew}
 use Rattle.usb_model.specs.Entry.{Lent, Left, accepted, noPort, start, answered, call}
@@ -23,7 +23,7 @@ use Rattle.usb_model.proofs.Cycle.{attach-walks, check-connection, root-hub, ch
 use Rattle.usb_model.proofs.Accepted.{root-accepted, hub-accepted}
 use Rattle.usb_model.proofs.Entries.{start-good, root-attach-accounts, scan-accounts, port-check-accounts}
 use Rattle.usb_model.proofs.Demand3.{demand3, attaches-is, scans-is, checks-is, leaves-ended}
-use Rattle.lidrumak.specs.Calls.{promised, Made, leftBy, Stopped, endOf, actionsOf, Calls, empty, refusal, ran, Histories, RootAttaches, Reports}
+use Rattle.lidrumak.specs.Calls.{promised, Made, leftBy, Stopped, actionsOf, Calls, empty, refusal, ran, Histories, RootAttaches, Reports}
 
 -- ---- whole actions
 

@@ -15,7 +15,7 @@ use Rattle.usb_types.specs.declared.types.Refusal.{Refusal}
 use Rattle.usb_types.specs.declared.types.Refusal.the-variants.{BadArgument}
 use Rattle.usb_types.specs.declared.types.Answer.{Answer}
 use Rattle.usb_types.specs.declared.types.Answer.the-variants.{Ok, Error, Stop}
-use Rattle.usb_device.specs.Layout.{Places}
+use Rattle.usb_store.specs.Layout.{Places}
 use Rattle.usb_device.specs.Device.{firstUnused}
 use Rattle.usb_sound.specs.Sound.{Sound}
 use Rattle.usb_model.specs.declared.Progress.{Progress}
@@ -30,10 +30,10 @@ use Rattle.usb_transfer.specs.declared.log.Step.{Step}
 use Rattle.usb_transfer.specs.Runs.{here, Fit, gave, Ends}
 use Rattle.usb_walk.specs.Steps.{endsWith}
 use Rattle.usb_driver.specs.Bus.{Bus}
-use Rattle.lidrumak.specs.declared.reply.Reply.{Reply}
-use Rattle.lidrumak.specs.declared.verdict.Verdict.{Verdict}
-use Rattle.lidrumak.specs.declared.verdict.Verdict.the-variants.{Accepted, Refused}
-use Rattle.lidrumak.specs.Replies.{left, walkLeft, refusalReply, stepReply, nothingDone, told}
+use Rattle.usb_entry.specs.declared.reply.Reply.{Reply}
+use Rattle.usb_entry.specs.declared.verdict.Verdict.{Verdict}
+use Rattle.usb_entry.specs.declared.verdict.Verdict.the-variants.{Accepted, Refused}
+use Rattle.usb_entry.specs.Replies.{left, walkLeft, refusalReply, stepReply, nothingDone, told}
 
 -- ---- a call, refused or run
 

@@ -3,19 +3,18 @@
 use mathlib.Core.Path.{_≡_}
 use mathlib.Core.List.{List, []}
 use Prim.Native.Nat.{ℕ, _/_, _≤_}
-use lib.ListN.{replicate}
+use Rattle.usb_types.specs.Actions.{ActionLength}
 use Rattle.usb_types.specs.Answers.{haltNumber}
 use Rattle.usb_types.specs.declared.types.Halt.{Halt}
-use Rattle.usb_device.specs.Layout.{StoreLength}
-use Rattle.usb_model.specs.Programs.{Ran, done, fail, halt}
-use Rattle.usb_model.specs.World.{World}
+use Rattle.usb_store.specs.Layout.{emptyStore}
+use Rattle.usb_model.specs.Programs.{endOf}
 use Rattle.usb_model.specs.Entry.{Lent, Left, accepted, start, rootAttach, scan, portCheck}
 use Rattle.usb_model.specs.Kept.{LentBytes, Accounts}
 use Rattle.usb_model.specs.Count.{mostRequests, storeLeft}
 use Rattle.usb_model.specs.History.{Event, joined}
 use Rattle.usb_model.specs.Demand3.{Call, attaches, scans, checks, verdict, program, Demand, Bounded}
-use Rattle.lidrumak.specs.declared.reply.Reply.{Reply}
-use Rattle.lidrumak.specs.Replies.{left}
+use Rattle.usb_entry.specs.declared.reply.Reply.{Reply}
+use Rattle.usb_entry.specs.Replies.{left}
 
 -- what a call leaves by the contract of `lidrumak_root_attach`, `lidrumak_scan` or `lidrumak_port_check`
 abbrev pub promised : Call → Lent → Left
@@ -39,20 +38,14 @@ leftBy made = left (made .reply) (made .new) (made .log)
 abbrev pub Stopped : Reply → Type 0
 Stopped reply = (h : Halt) × (reply .answer ≡ haltNumber h)
 
--- the world in which a run ends
-abbrev pub endOf : Ran World (Unit {0}) → World
-endOf (done a w) = w
-endOf (fail e w) = w
-endOf (halt h w) = w
-
--- how many actions a call logs, each of 16 bytes (proofs/Calls.antt, `whole-actions`)
+-- how many actions a call logs (proofs/Calls.antt, `whole-actions`)
 abbrev pub actionsOf : Call → Lent → ℕ
-actionsOf c lent = endOf (program c (start lent)) .at .logged / 16
+actionsOf c lent = endOf (program c (start lent)) .at .logged / ActionLength
 
 -- "For every list of root attaches, scans and port checks, refused ones among them": the store s that it leaves, and its history h
 pub data Calls : List ℕ → List Event → Type 0 where
   -- "the first on an empty store"
-  empty : Calls (replicate StoreLength 0) []
+  empty : Calls emptyStore []
   -- "After an entry refusal the next call takes the same store, and the history gains nothing"
   refusal : {s : List ℕ} {h : List Event} → Calls s h → (c : Call) (made : Made c) → made .lends .old ≡ s
       → (verdict c (made .lends) ≡ accepted → ⊥) → Calls s h

@@ -1,32 +1,29 @@
 // The calls that the kernel makes: numbers and byte slices.
-mod reply;
-mod verdict;
-
-pub use reply::Reply;
-use reply::begin;
-use reply::refuse;
-use reply::report;
+use usb_child_reset::hub_child_reset;
 use usb_driver::hub::hub_check_connection;
-use usb_driver::hub::hub_check_connection_device;
-use usb_driver::hub::hub_check_for_change;
 use usb_driver::hub::hub_port_connection_changed;
 use usb_driver::usbd::usb_attach_root_hub;
-use usb_port::hub_child_reset;
+use usb_entry::reply::Reply;
+use usb_entry::reply::begin;
+use usb_entry::reply::refuse;
+use usb_entry::reply::report;
+use usb_entry::verdict::Verdict;
+use usb_entry::verdict::child_verdict;
+use usb_entry::verdict::hub_verdict;
+use usb_entry::verdict::port_verdict;
+use usb_entry::verdict::root_verdict;
 use usb_retry::hub_port_reset;
+use usb_scan::hub_check_connection_device;
+use usb_scan::hub_check_for_change;
 use usb_sound::copy_store;
 use usb_types::types::Refusal;
 use usb_types::types::answer_number;
 use usb_types::types::refusal_number;
 use usb_walk::RECORD_LEN;
 use usb_walk::walk;
-use verdict::Verdict;
-use verdict::child_verdict;
-use verdict::hub_verdict;
-use verdict::port_verdict;
-use verdict::root_verdict;
 ghost use mathlib.Core.Path.{_≡_};
 ghost use Rattle.usb_model.specs.Entry.{rootAttach, scan, portCheck, childReset, childCheck, retriedReset, connectionChange, configurationWalk};
-ghost use Rattle.lidrumak.specs.Replies.{lent, left, walkLeft};
+ghost use Rattle.usb_entry.specs.Replies.{lent, left, walkLeft};
 
 // UsbAttachRootHub.
 #[no_mangle]
@@ -37,7 +34,8 @@ pub extern "C" fn lidrumak_root_attach(
     log: &mut [u8],
     speed: u32,
 ) -> Reply
-    ensures { λ r. ⌜ left r (now (new .exit)) (now (log .exit)) ≡ rootAttach speed (lent (now (old .entry)) (now (new .entry)) (now (outcomes .entry)) (now (log .entry))) ⌝ }
+    ensures { λ r. ⌜ left r (now (new .exit)) (now (log .exit))
+        ≡ rootAttach speed (lent (now (old .entry)) (now (new .entry)) (now (outcomes .entry)) (now (log .entry))) ⌝ }
 {
     let verdict = root_verdict(old, new.len(), speed);
     if let Verdict::Refused(refusal) = verdict {
@@ -56,7 +54,8 @@ pub extern "C" fn lidrumak_scan(
     log: &mut [u8],
     hub: u32,
 ) -> Reply
-    ensures { λ r. ⌜ left r (now (new .exit)) (now (log .exit)) ≡ scan hub (lent (now (old .entry)) (now (new .entry)) (now (outcomes .entry)) (now (log .entry))) ⌝ }
+    ensures { λ r. ⌜ left r (now (new .exit)) (now (log .exit))
+        ≡ scan hub (lent (now (old .entry)) (now (new .entry)) (now (outcomes .entry)) (now (log .entry))) ⌝ }
 {
     let verdict = hub_verdict(old, new.len(), hub);
     if let Verdict::Refused(refusal) = verdict {
@@ -76,7 +75,8 @@ pub extern "C" fn lidrumak_port_check(
     hub: u32,
     port: u32,
 ) -> Reply
-    ensures { λ r. ⌜ left r (now (new .exit)) (now (log .exit)) ≡ portCheck hub port (lent (now (old .entry)) (now (new .entry)) (now (outcomes .entry)) (now (log .entry))) ⌝ }
+    ensures { λ r. ⌜ left r (now (new .exit)) (now (log .exit))
+        ≡ portCheck hub port (lent (now (old .entry)) (now (new .entry)) (now (outcomes .entry)) (now (log .entry))) ⌝ }
 {
     let verdict = port_verdict(old, new.len(), hub, port);
     if let Verdict::Refused(refusal) = verdict {
@@ -96,7 +96,8 @@ pub extern "C" fn lidrumak_child_reset(
     hub: u32,
     child: u32,
 ) -> Reply
-    ensures { λ r. ⌜ left r (now (new .exit)) (now (log .exit)) ≡ childReset hub child (lent (now (old .entry)) (now (new .entry)) (now (outcomes .entry)) (now (log .entry))) ⌝ }
+    ensures { λ r. ⌜ left r (now (new .exit)) (now (log .exit))
+        ≡ childReset hub child (lent (now (old .entry)) (now (new .entry)) (now (outcomes .entry)) (now (log .entry))) ⌝ }
 {
     let verdict = child_verdict(old, new.len(), hub, child);
     if let Verdict::Refused(refusal) = verdict {
@@ -116,7 +117,8 @@ pub extern "C" fn lidrumak_child_check(
     hub: u32,
     child: u32,
 ) -> Reply
-    ensures { λ r. ⌜ left r (now (new .exit)) (now (log .exit)) ≡ childCheck hub child (lent (now (old .entry)) (now (new .entry)) (now (outcomes .entry)) (now (log .entry))) ⌝ }
+    ensures { λ r. ⌜ left r (now (new .exit)) (now (log .exit))
+        ≡ childCheck hub child (lent (now (old .entry)) (now (new .entry)) (now (outcomes .entry)) (now (log .entry))) ⌝ }
 {
     let verdict = child_verdict(old, new.len(), hub, child);
     if let Verdict::Refused(refusal) = verdict {
@@ -136,7 +138,8 @@ pub extern "C" fn lidrumak_retried_reset(
     hub: u32,
     port: u32,
 ) -> Reply
-    ensures { λ r. ⌜ left r (now (new .exit)) (now (log .exit)) ≡ retriedReset hub port (lent (now (old .entry)) (now (new .entry)) (now (outcomes .entry)) (now (log .entry))) ⌝ }
+    ensures { λ r. ⌜ left r (now (new .exit)) (now (log .exit))
+        ≡ retriedReset hub port (lent (now (old .entry)) (now (new .entry)) (now (outcomes .entry)) (now (log .entry))) ⌝ }
 {
     let verdict = port_verdict(old, new.len(), hub, port);
     if let Verdict::Refused(refusal) = verdict {
@@ -156,7 +159,8 @@ pub extern "C" fn lidrumak_connection_change(
     hub: u32,
     port: u32,
 ) -> Reply
-    ensures { λ r. ⌜ left r (now (new .exit)) (now (log .exit)) ≡ connectionChange hub port (lent (now (old .entry)) (now (new .entry)) (now (outcomes .entry)) (now (log .entry))) ⌝ }
+    ensures { λ r. ⌜ left r (now (new .exit)) (now (log .exit))
+        ≡ connectionChange hub port (lent (now (old .entry)) (now (new .entry)) (now (outcomes .entry)) (now (log .entry))) ⌝ }
 {
     let verdict = port_verdict(old, new.len(), hub, port);
     if let Verdict::Refused(refusal) = verdict {

@@ -4,7 +4,7 @@ use mathlib.Core.List.{List}
 use Prim.Native.Nat.{ℕ}
 use lib.Dec.{eqb}
 use lib.ListN.{length}
-use Rattle.usb_device.specs.Layout.{StoreLength}
+use Rattle.usb_store.specs.Layout.{StoreLength}
 use Rattle.usb_device.specs.Device.{firstUnused}
 use Rattle.usb_sound.specs.Test.{sound}
 use Rattle.storecheck.specs.declared.Verdict.{Verdict}

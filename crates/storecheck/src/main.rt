@@ -3,8 +3,8 @@
 use libc::STDIN_FILENO;
 use libc::STDOUT_FILENO;
 use usb_device::device::first_unused;
-use usb_device::store::STORE_LEN;
 use usb_sound::sound;
+use usb_store::STORE_LEN;
 ghost use mathlib.Core.Path.{_≡_};
 ghost use Rattle.storecheck.specs.Verdict.{verdictOf};
 

@@ -4,8 +4,8 @@ use mathlib.Core.Bool.{Bool, true, false, not, Bool·beq}
 use Prim.Native.Nat.{ℕ}
 use borrow.Author.Tests.{eq-eqb}
 use Rattle.usb_types.specs.declared.types.Answer.the-variants.{Ok}
-use Rattle.usb_device.specs.Layout.{Number, PortStatus, Child}
-use Rattle.usb_device.specs.Access.{byteAt, numberAt}
+use Rattle.usb_store.specs.Layout.{Number, PortStatus, Child}
+use Rattle.usb_store.specs.Access.{byteAt, numberAt}
 use Rattle.usb_model.specs.World.{World}
 use Rattle.usb_model.specs.Features.{PORT-CONNECTION, C-PORT-CONNECTION, bit}
 use Rattle.usb_model.specs.Hub.{differ, hubPortGetStatus, portStatus}

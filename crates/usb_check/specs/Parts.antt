@@ -3,15 +3,14 @@ use mathlib.Core.Path.{_≡_}
 use mathlib.Core.Bool.{Bool, false, not, _&&_, _||_}
 use Prim.Native.Nat.{ℕ}
 use lib.Dec.{eqb}
-use denote.Ref.{now}
 use Rattle.usb_types.specs.declared.types.Answer.{Answer}
-use Rattle.usb_device.specs.Layout.{Number, Child}
+use Rattle.usb_store.specs.Layout.{Number, Child}
 use Rattle.usb_model.specs.declared.Progress.{Progress}
 use Rattle.usb_model.specs.Programs.{_>>=_, _>>_, return, ignore, when}
-use Rattle.usb_model.specs.World.{World, M, get}
+use Rattle.usb_model.specs.World.{M, get}
 use Rattle.usb_model.specs.Features.{PORT-CONNECTION, PORT-ENABLE, PORT-SUSPEND, PORT-OVER-CURRENT, C-PORT-CONNECTION, C-PORT-ENABLE, C-PORT-OVER-CURRENT, C-PORT-RESET, bit}
 use Rattle.usb_model.specs.Hub.{differ, clearPortFeature, hubPowerOn, hubPortGetStatus, portStatus}
-use Rattle.usb_transfer.specs.Runs.{here, Ends, IfOk, Lent}
+use Rattle.usb_transfer.specs.Runs.{IfOk, Lent, DoesSo}
 use Rattle.usb_check.specs.declared.Due.{Due}
 use Rattle.usb_check.specs.declared.Found.{Found}
 
@@ -39,7 +38,7 @@ unfoldable pub isChanged : ℕ → ℕ → ℕ → Bool
 isChanged number before status =
     bit C-PORT-CONNECTION status || (eqb number 1 && differ (bit PORT-CONNECTION before) (bit PORT-CONNECTION status))
 
--- the first read, and the changes that are cleared before a connection change is gone after
+-- the first read, and the changes that are cleared before a connection change is started
 unfoldable pub startCheck : ℕ → ℕ → M Due
 startCheck hub port = do
   before ← portStatus hub port
@@ -56,14 +55,9 @@ endCheck hub port status = do
   clearIf hub C-PORT-RESET port (bit C-PORT-RESET status)
 
 -- nothing is due where the answer is not Ok
-abbrev pub Nothing : Answer → Due → Type 0
-Nothing a due = IfOk a (Unit {0}) (due ≡ record { status = 0; dropped = false; changed = false })
-
-pub record Finding (m : M Due) (w : World) (a : Answer) (due : Due) (v : World) : Type 0 where
-  pub ends : Ends m w a due v
-  pub none : Nothing a due
+abbrev pub NothingDue : Answer → Due → Type 0
+NothingDue a due = IfOk a (Unit {0}) (due ≡ record { status = 0; dropped = false; changed = false })
 
 abbrev pub Finds : M Due → Lent → Lent → Lent → Progress → Found → Type 0
 Finds m store log outcomes at r =
-    Finding m (here (now (store .entry)) (now (log .entry)) (now (outcomes .entry)) at) (r .step .answer) (r .due)
-    (here (now (store .exit)) (now (log .exit)) (now (outcomes .entry)) (r .step .at))
+    DoesSo (NothingDue (r .step .answer) (r .due)) m store log outcomes at (r .step) (r .due)

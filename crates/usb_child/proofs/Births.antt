@@ -8,8 +8,8 @@ use lib.Dec.{eqb}
 use borrow.Author.Tests.{eq-eqb, ne-eqb}
 use Rattle.usb_types.specs.declared.types.ErrorCode.the-variants.{BusFull}
 use Rattle.usb_types.specs.declared.types.Answer.the-variants.{Ok, Error}
-use Rattle.usb_device.specs.Layout.{Places, Speed, PortNumber, Parent, PortStatus}
-use Rattle.usb_device.specs.Access.{numberAt, withByte}
+use Rattle.usb_store.specs.Layout.{Places, Speed, PortNumber, Parent, PortStatus}
+use Rattle.usb_store.specs.Access.{numberAt, withByte}
 use Rattle.usb_model.specs.declared.Progress.{Progress}
 use Rattle.usb_model.specs.Programs.{_>>=_, _>>_}
 use Rattle.usb_model.specs.World.{World, M, put}

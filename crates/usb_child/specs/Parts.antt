@@ -4,18 +4,17 @@ use mathlib.Core.Bool.{Bool, not, _&&_, _||_}
 use mathlib.Core.List.{List}
 use Prim.Native.Nat.{ℕ, _+_, _<_}
 use lib.Dec.{eqb}
-use denote.Ref.{now}
 use Rattle.usb_types.specs.declared.types.ErrorCode.the-variants.{Incompatible}
-use Rattle.usb_types.specs.declared.types.Answer.{Answer}
-use Rattle.usb_device.specs.Layout.{Places, Speed, PortNumber, Parent, PortStatus, Child}
-use Rattle.usb_device.specs.Access.{numberAt, withByte}
+use Rattle.usb_store.specs.Layout.{Places, Speed, PortNumber, Parent, PortStatus, Child}
+use Rattle.usb_store.specs.Access.{numberAt, withByte}
 use Rattle.usb_model.specs.declared.Progress.{Progress}
 use Rattle.usb_model.specs.Programs.{_>>=_, _>>_, return, throw, when}
-use Rattle.usb_model.specs.World.{World, M, get, put, microDelay, dwcUpdateHostFrameInterval}
+use Rattle.usb_model.specs.World.{M, get, put, microDelay, dwcUpdateHostFrameInterval}
 use Rattle.usb_model.specs.Features.{PORT-CONNECTION, PORT-ENABLE, C-PORT-CONNECTION, bit}
 use Rattle.usb_model.specs.Usbd.{usbAllocateDevice}
 use Rattle.usb_model.specs.Hub.{hubPortGetStatus, clearPortFeature, portStatus, hubPortReset2, speedOf}
-use Rattle.usb_transfer.specs.Runs.{here, Ends, IfOk, Lent}
+use Rattle.usb_transfer.specs.declared.log.Step.{Step}
+use Rattle.usb_transfer.specs.Runs.{IfOk, Lent, DoesSo}
 use Rattle.usb_child.specs.declared.NewChild.{NewChild}
 
 unfoldable pub startChange : ℕ → ℕ → M (Unit {0})
@@ -58,15 +57,11 @@ newChild hub port = do
   placeChild hub port place
   return place
 
+-- no place was given
+abbrev pub noChild : Step → NewChild
+noChild step = record { step = step; place = Places }
+
 -- a place where the answer is Ok, else none
-abbrev pub Born : Answer → ℕ → Type 0
-Born a place = IfOk a (place < Places) (place ≡ Places)
-
-pub record Bearing (m : M ℕ) (w : World) (a : Answer) (place : ℕ) (v : World) : Type 0 where
-  pub ends : Ends m w a place v
-  pub born : Born a place
-
-abbrev pub Bears : M ℕ → Lent → Lent → Lent → Progress → NewChild → Type 0
-Bears m store log outcomes at r =
-    Bearing m (here (now (store .entry)) (now (log .entry)) (now (outcomes .entry)) at) (r .step .answer) (r .place)
-    (here (now (store .exit)) (now (log .exit)) (now (outcomes .entry)) (r .step .at))
+abbrev pub GivesPlace : M ℕ → Lent → Lent → Lent → Progress → NewChild → Type 0
+GivesPlace m store log outcomes at r =
+    DoesSo (IfOk (r .step .answer) (r .place < Places) (r .place ≡ Places)) m store log outcomes at (r .step) (r .place)

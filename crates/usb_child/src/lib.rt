@@ -1,12 +1,6 @@
 // device/hub.rs, HubPortConnectionChanged up to the attach of the new device.
 use usb_device::hub::HubDevice;
 use usb_device::hub::load_hub;
-use usb_device::store::CHILDREN;
-use usb_device::store::PARENT;
-use usb_device::store::PLACES;
-use usb_device::store::PORT_NUMBER;
-use usb_device::store::SPEED;
-use usb_device::store::set_byte;
 use usb_enumerate::usb_allocate_device;
 use usb_hub::ports::PORT_CONNECTION;
 use usb_hub::ports::PORT_ENABLE;
@@ -20,6 +14,12 @@ use usb_hub::requests::hub_port_get_status;
 use usb_model::Progress;
 use usb_port::hub_port_reset2;
 use usb_port::port_status;
+use usb_store::CHILDREN;
+use usb_store::PARENT;
+use usb_store::PLACES;
+use usb_store::PORT_NUMBER;
+use usb_store::SPEED;
+use usb_store::set_byte;
 use usb_transfer::log::Step;
 use usb_transfer::log::dwc_update_host_frame_interval;
 use usb_transfer::log::micro_delay;
@@ -27,10 +27,10 @@ use usb_types::types::Answer;
 use usb_types::types::ErrorCode;
 ghost use mathlib.Core.Path.{_≡_};
 ghost use Prim.Native.Nat.{_<_};
-ghost use Rattle.usb_device.specs.Layout.{Places, StoreLength};
+ghost use Rattle.usb_store.specs.Layout.{Places, StoreLength, Ports};
 ghost use lib.ListN.{length, getD};
 ghost use Rattle.usb_transfer.specs.Runs.{Ready, Does};
-ghost use Rattle.usb_child.specs.Parts.{startChange, noNewDevice, resetChanged, placeChild, withPort, newChild, Bears};
+ghost use Rattle.usb_child.specs.Parts.{startChange, noNewDevice, resetChanged, placeChild, withPort, newChild, noChild, GivesPlace};
 
 // The change is read, cleared, and the status read again.
 fn start_change(
@@ -41,7 +41,7 @@ fn start_change(
     hub: usize,
     port: usize,
 ) -> Step
-    requires { ⌜ Ready store log outcomes at × (hub < Places) × (port < 10) ⌝ }
+    requires { ⌜ Ready store log outcomes at × (hub < Places) × (port < Ports) ⌝ }
     ensures { λ r. ⌜ Does (startChange hub port) store log outcomes at r ⌝ }
 {
     let framed = dwc_update_host_frame_interval(log, at);
@@ -55,17 +55,9 @@ fn start_change(
     let Answer::Ok = answer else {
         return first;
     };
-    let first_at = first.at;
-    let cleared = hub_change_port_feature(
-        store,
-        log,
-        outcomes,
-        first_at,
-        hub,
-        C_PORT_CONNECTION,
-        port,
-        false,
-    );
+    let next = first.at;
+    let change = C_PORT_CONNECTION;
+    let cleared = hub_change_port_feature(store, log, outcomes, next, hub, change, port, false);
     let answer = cleared.answer;
     let Answer::Ok = answer else {
         return cleared;
@@ -76,7 +68,7 @@ fn start_change(
 
 // No device is there, or the port has a child.
 fn no_new_device(ports: HubDevice, port: usize) -> bool
-    requires { ⌜ port < 10 ⌝ }
+    requires { ⌜ port < Ports ⌝ }
     ensures { λ r. ⌜ r ≡ noNewDevice (getD (ports .«port_status») port 0) (getD (ports .children) port 0) ⌝ }
 {
     if child_of(ports, port) != 0 {
@@ -98,7 +90,7 @@ fn reset_changed(
     hub: usize,
     port: usize,
 ) -> Step
-    requires { ⌜ Ready store log outcomes at × (hub < Places) × (port < 10) ⌝ }
+    requires { ⌜ Ready store log outcomes at × (hub < Places) × (port < Ports) ⌝ }
     ensures { λ r. ⌜ Does (resetChanged hub port) store log outcomes at r ⌝ }
 {
     let started = start_change(store, log, outcomes, at, hub, port);
@@ -124,7 +116,7 @@ fn reset_changed(
 
 // The hub, the port and the speed of a new device.
 fn set_port(store: &mut [u8], hub: usize, port: usize, place: usize)
-    requires { ⌜ (length (now store) ≡ StoreLength) × (hub < Places) × (port < 10) × (place < Places) ⌝ }
+    requires { ⌜ (length (now store) ≡ StoreLength) × (hub < Places) × (port < Ports) × (place < Places) ⌝ }
     ensures { λ _. ⌜ now (store .exit) ≡ withPort (now (store .entry)) hub port place ⌝ }
 {
     let speed = speed_of(port_status(store, hub, port));
@@ -143,7 +135,7 @@ fn place_child(
     port: usize,
     place: usize,
 ) -> Step
-    requires { ⌜ Ready store log outcomes at × (hub < Places) × (port < 10) × (place < Places) ⌝ }
+    requires { ⌜ Ready store log outcomes at × (hub < Places) × (port < Ports) × (place < Places) ⌝ }
     ensures { λ r. ⌜ Does (placeChild hub port place) store log outcomes at r ⌝ }
 {
     set_byte(store, hub, CHILDREN + port, (place + 1) as u8);
@@ -162,6 +154,16 @@ pub struct NewChild {
     pub place: usize,
 }
 
+// No place was taken, or none is left.
+fn no_child(step: Step) -> NewChild
+    ensures { λ r. ⌜ r ≡ noChild step ⌝ }
+{
+    NewChild {
+        step,
+        place: PLACES,
+    }
+}
+
 pub fn new_child(
     store: &mut [u8],
     log: &mut [u8],
@@ -170,36 +172,26 @@ pub fn new_child(
     hub: usize,
     port: usize,
 ) -> NewChild
-    requires { ⌜ Ready store log outcomes at × (hub < Places) × (port < 10) ⌝ }
-    ensures { λ r. ⌜ Bears (newChild hub port) store log outcomes at r ⌝ }
+    requires { ⌜ Ready store log outcomes at × (hub < Places) × (port < Ports) ⌝ }
+    ensures { λ r. ⌜ GivesPlace (newChild hub port) store log outcomes at r ⌝ }
 {
     let reset = reset_changed(store, log, outcomes, at, hub, port);
     let answer = reset.answer;
     let Answer::Ok = answer else {
-        return NewChild {
-            step: reset,
-            place: PLACES,
-        };
+        return no_child(reset);
     };
     let next = reset.at;
     let place = usb_allocate_device(store);
     if place == PLACES {
-        let step = Step {
+        return no_child(Step {
             answer: Answer::Error(ErrorCode::BusFull),
             at: next,
-        };
-        return NewChild {
-            step,
-            place: PLACES,
-        };
+        });
     }
     let placed = place_child(store, log, outcomes, next, hub, port, place);
     let answer = placed.answer;
     let Answer::Ok = answer else {
-        return NewChild {
-            step: placed,
-            place: PLACES,
-        };
+        return no_child(placed);
     };
     NewChild {
         step: placed,

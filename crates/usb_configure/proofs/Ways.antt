@@ -8,10 +8,10 @@ use lib.Dec.{eqb}
 use lib.ListN.{length, take, drop, length-take, length-drop}
 use Rattle.usb_types.specs.declared.types.ErrorCode.the-variants.{Device}
 use Rattle.usb_types.specs.declared.types.Answer.{Answer}
-use Rattle.usb_device.specs.Layout.{Places, StoreLength, Status, ConfigurationIndex, TotalLength, Interfaces}
-use Rattle.usb_device.specs.Access.{offset, bytesAt, withBytes}
-use Rattle.usb_device.specs.Device.{Addressed}
-use Rattle.usb_device.proofs.Writes.{part-back}
+use Rattle.usb_store.specs.Layout.{Places, StoreLength, Status, ConfigurationIndex, TotalLength, Interfaces}
+use Rattle.usb_store.specs.Access.{offset, bytesAt, withBytes}
+use Rattle.usb_store.specs.Values.{Addressed}
+use Rattle.usb_store.proofs.Writes.{part-back}
 use Rattle.usb_model.specs.declared.Progress.{Progress}
 use Rattle.usb_model.specs.Programs.{_>>=_, _>>_, throw, look, change, succeed, when}
 use Rattle.usb_model.specs.World.{World, M, get, getBytes, getNumber, put, putBytes}

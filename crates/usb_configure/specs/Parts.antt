@@ -5,14 +5,13 @@ use denote.Ref.{now}
 use Rattle.usb_types.specs.Requests.{ToDevice}
 use Rattle.usb_types.specs.Descriptors as Descriptors
 use Rattle.usb_types.specs.declared.types.Answer.{Answer}
-use Rattle.usb_device.specs.Layout.{ConfigurationIndex, ConfigurationDescriptor, ConfigurationValue, Interfaces}
-use Rattle.usb_model.specs.declared.Progress.{Progress}
+use Rattle.usb_store.specs.Layout.{ConfigurationIndex, ConfigurationDescriptor, ConfigurationValue, Interfaces}
 use Rattle.usb_model.specs.Programs.{_>>=_, _>>_, succeed}
 use Rattle.usb_model.specs.World.{M, get, getBytes, put, putBytes}
 use Rattle.usb_model.specs.Transfer.{into, nowhere, usbGetDescriptor}
 use Rattle.usb_model.specs.Walk.{RecordLength, walk}
 use Rattle.usb_model.specs.Usbd.{usbSetConfigure}
-use Rattle.usb_transfer.specs.Runs.{here, Fit, Ends, Lent}
+use Rattle.usb_transfer.specs.Runs.{OnStore, Lent}
 
 unfoldable pub readHead : ℕ → ℕ → M (List ℕ)
 readHead place configuration =
@@ -39,6 +38,4 @@ configureFull place configuration total = do
 
 -- of functions that take the store alone
 abbrev pub Walks : M (Unit {0}) → Lent → Answer → Type 0
-Walks m store a =
-    (l o : List ℕ) (at : Progress) → Fit (here (now (store .entry)) l o at)
-    → Ends m (here (now (store .entry)) l o at) a tt (here (now (store .exit)) l o at)
+Walks m store a = OnStore m (now (store .entry)) a tt (now (store .exit))

@@ -2,20 +2,20 @@
 use usb_deliver::deliver_descriptor;
 use usb_device::device::ADDRESSED;
 use usb_device::device::CONFIGURED;
-use usb_device::store::CONFIGURATION_INDEX;
-use usb_device::store::CONFIGURATION_VALUE;
-use usb_device::store::INTERFACES;
-use usb_device::store::PLACE_LEN;
-use usb_device::store::STATUS;
-use usb_device::store::TOTAL_LENGTH;
-use usb_device::store::byte_at;
-use usb_device::store::set_byte;
-use usb_device::store::u16_at;
 use usb_message::Transfer;
 use usb_message::control;
 use usb_message::usb_get_descriptor;
 use usb_model::Buffer;
 use usb_model::Progress;
+use usb_store::CONFIGURATION_INDEX;
+use usb_store::CONFIGURATION_VALUE;
+use usb_store::INTERFACES;
+use usb_store::PLACE_LEN;
+use usb_store::STATUS;
+use usb_store::TOTAL_LENGTH;
+use usb_store::byte_at;
+use usb_store::set_byte;
+use usb_store::u16_at;
 use usb_transfer::log::Step;
 use usb_types::request::DEVICE;
 use usb_types::request::SET_CONFIGURATION;
@@ -27,7 +27,7 @@ use usb_walk::walk;
 ghost use mathlib.Core.Path.{_≡_};
 ghost use Prim.Native.Nat.{_<_};
 ghost use lib.ListN.{length};
-ghost use Rattle.usb_device.specs.Layout.{Places, StoreLength};
+ghost use Rattle.usb_store.specs.Layout.{Places, StoreLength};
 ghost use Rattle.usb_model.specs.Usbd as Model;
 ghost use Rattle.usb_transfer.specs.Runs.{Ready, Does};
 ghost use Rattle.usb_message.specs.Parts.{Transfers};
@@ -77,7 +77,7 @@ fn read_configuration(
     ensures { λ r. ⌜ Transfers (readHead place configuration) store log outcomes at r ⌝ }
 {
     let buffer = Buffer {
-        field: usb_device::store::CONFIGURATION_DESCRIPTOR,
+        field: usb_store::CONFIGURATION_DESCRIPTOR,
         room: 9,
     };
     usb_get_descriptor(

@@ -10,10 +10,10 @@ use native.Mathlib.Decide.{ℕ-discrete, decLt}
 use borrow.Author.Tests.{eqb-true, eqb-false, eq-eqb, ne-eqb}
 use lib.Dec.{eqb}
 use lib.ListN.{length, getD}
-use Rattle.usb_device.specs.Layout.{Used}
-use Rattle.usb_device.specs.Access.{byteAt, withBytes}
+use Rattle.usb_store.specs.Layout.{Used}
+use Rattle.usb_store.specs.Access.{byteAt, withBytes}
+use Rattle.usb_store.proofs.Fields.{Apart, byte-other, bytes-same, byte-of-bytes}
 use Rattle.usb_device.specs.Device.{newDevice, firstUnused, firstUnusedFrom, freeBelow, freePlaces}
-use Rattle.usb_device.proofs.Fields.{Apart, byte-other, bytes-same, byte-of-bytes}
 use Rattle.usb_device.proofs.NewDevice.{length-new}
 
 -- ---- the first

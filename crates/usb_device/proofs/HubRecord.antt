@@ -9,11 +9,11 @@ use native.Mathlib.Omega.{arith}
 use lib.ListN.{length, getD, set, length-set}
 use lib.Seq.{ext-getD, getD-set-same, getD-set-other}
 use Rattle.usb_types.specs.Numbers.{littleEndian}
+use Rattle.usb_store.specs.Layout.{PortStatus, Children, Child, MaxChildren}
+use Rattle.usb_store.specs.Access.{Within, byteAt, numberAt, withBytes, withNumber}
+use Rattle.usb_store.proofs.Fields.{with-length, byte-same, byte-other, bytes-same, byte-of-bytes, number-same, number-other}
 use Rattle.usb_device.specs.declared.hub.HubDevice.{HubDevice}
-use Rattle.usb_device.specs.Layout.{PortStatus, Children, Child, MaxChildren}
-use Rattle.usb_device.specs.Access.{Within, byteAt, numberAt, withBytes, withNumber}
 use Rattle.usb_device.specs.Ports.{portsFrom, tenPorts, hubAt, withStatuses, withHub, TenPorts}
-use Rattle.usb_device.proofs.Fields.{with-length, byte-same, byte-other, bytes-same, byte-of-bytes, number-same, number-other}
 
 ports-at : (n port : ℕ) (f : ℕ → ℕ) (k : ℕ) → k < n → getD (portsFrom n port f) k 0 ≡ f (port + k)
 ports-at zero port f k h = absurd (omega arith)

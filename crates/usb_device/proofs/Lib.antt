@@ -1,5 +1,3 @@
-pub mod Writes
-pub mod Fields
 pub mod Turns
 pub mod NewDevice
 pub mod HubRecord

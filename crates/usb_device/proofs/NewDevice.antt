@@ -5,10 +5,10 @@ use Prim.Native.Nat.{ℕ, _+_, _*_, _-_, _<_}
 use native.Mathlib.Nat.{add-zero}
 use native.Mathlib.Omega.{arith}
 use lib.ListN.{length, take, drop, set, replicate}
-use Rattle.usb_device.specs.Layout.{Places, PlaceLength, StoreLength}
-use Rattle.usb_device.specs.Access.{withBytes}
+use Rattle.usb_store.specs.Layout.{Places, PlaceLength, StoreLength}
+use Rattle.usb_store.specs.Access.{withBytes}
+use Rattle.usb_store.proofs.Writes.{part-back}
 use Rattle.usb_device.specs.Device.{newDevice, marked}
-use Rattle.usb_device.proofs.Writes.{part-back}
 
 pub length-new : (place : ℕ) → length (newDevice place) ≡ 1152
 unfolding newDevice

@@ -10,8 +10,8 @@ use borrow.Author.Tests.{eq-eqb, ne-eqb}
 use lib.Dec.{eqb}
 use lib.ListN.{length, getD, drop, set, drop-of-length-le}
 use lib.Seq.{drop-cons}
-use Rattle.usb_device.specs.Layout.{PortStatus, Used}
-use Rattle.usb_device.specs.Access.{byteAt, withNumber}
+use Rattle.usb_store.specs.Layout.{PortStatus, Used}
+use Rattle.usb_store.specs.Access.{byteAt, withNumber}
 use Rattle.usb_device.specs.Ports.{withStatuses}
 use Rattle.usb_device.specs.Device.{marked, firstUnusedFrom}
 

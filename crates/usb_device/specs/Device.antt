@@ -5,34 +5,9 @@ use mathlib.Core.List.{List, [], _∷_, _++_}
 use Prim.Native.Nat.{ℕ, zero, suc, _+_, _-_}
 use lib.Dec.{eqb}
 use lib.ListN.{replicate, set}
-use Rattle.usb_device.specs.Layout.{Used, Places}
-use Rattle.usb_device.specs.Access.{byteAt}
-
--- UsbSpeed
-abbrev pub High : ℕ
-High = 0
-
-abbrev pub Full : ℕ
-Full = 1
-
-abbrev pub Low : ℕ
-Low = 2
-
--- UsbDeviceStatus, USB 2.0 9.1
-abbrev pub Attached : ℕ
-Attached = 0
-
-abbrev pub Powered : ℕ
-Powered = 1
-
-abbrev pub Default : ℕ
-Default = 2
-
-abbrev pub Addressed : ℕ
-Addressed = 3
-
-abbrev pub Configured : ℕ
-Configured = 4
+use Rattle.usb_store.specs.Layout.{Used, Places}
+use Rattle.usb_store.specs.Access.{byteAt}
+use Rattle.usb_store.specs.Values.{Full, Attached}
 
 abbrev pub repeat : ℕ → List ℕ → List ℕ
 repeat zero block = []

@@ -1,4 +1,2 @@
-pub mod Layout
-pub mod Access
 pub mod Ports
 pub mod Device

@@ -3,8 +3,8 @@ use mathlib.Core.Path.{_≡_}
 use mathlib.Core.List.{List, [], _∷_}
 use Prim.Native.Nat.{ℕ, zero, suc, _+_, _<_, _^_}
 use lib.ListN.{length, getD, replicate}
-use Rattle.usb_device.specs.Layout.{PortStatus, Children, Child, MaxChildren}
-use Rattle.usb_device.specs.Access.{byteAt, numberAt, withByte, withBytes, withNumber}
+use Rattle.usb_store.specs.Layout.{PortStatus, Children, Child, MaxChildren, Ports}
+use Rattle.usb_store.specs.Access.{byteAt, numberAt, withByte, withBytes, withNumber}
 use Rattle.usb_device.specs.declared.hub.HubDevice.{HubDevice}
 
 -- a value for each of n ports from one on
@@ -14,7 +14,7 @@ portsFrom (suc n) port f = f port ∷ portsFrom n (port + 1) f
 
 -- a value for each of the ports 0 to 9
 abbrev pub tenPorts : (ℕ → ℕ) → List ℕ
-tenPorts f = portsFrom 10 0 f
+tenPorts f = portsFrom Ports 0 f
 
 -- "56 ten port statuses of 4; 96 ten children (0 none, else place+1); 106 MaxChildren"
 unfoldable pub hubAt : List ℕ → ℕ → HubDevice

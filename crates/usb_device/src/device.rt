@@ -1,18 +1,18 @@
 // device.rs: a new device, and the first place that is not used.
-use crate::store::CONFIGURATION_INDEX;
-use crate::store::MAX_PACKET_SIZE0;
-use crate::store::NUMBER;
-use crate::store::PLACE_LEN;
-use crate::store::PLACES;
-use crate::store::SPEED;
-use crate::store::USED;
-use crate::store::byte_at;
-use crate::store::fill_zero;
+use usb_store::CONFIGURATION_INDEX;
+use usb_store::MAX_PACKET_SIZE0;
+use usb_store::NUMBER;
+use usb_store::PLACE_LEN;
+use usb_store::PLACES;
+use usb_store::SPEED;
+use usb_store::USED;
+use usb_store::byte_at;
+use usb_store::fill_zero;
 ghost use mathlib.Core.Path.{_≡_};
 ghost use Prim.Native.Nat.{_+_, _*_, _≤_, _<_};
 ghost use lib.ListN.{length};
-ghost use Rattle.usb_device.specs.Layout.{Places, PlaceLength, StoreLength};
-ghost use Rattle.usb_device.specs.Access.{withBytes};
+ghost use Rattle.usb_store.specs.Layout.{Places, PlaceLength, StoreLength};
+ghost use Rattle.usb_store.specs.Access.{withBytes};
 ghost use Rattle.usb_device.specs.Device.{firstUnused, newDevice, marked};
 
 // UsbSpeed.

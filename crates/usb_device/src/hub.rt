@@ -1,17 +1,17 @@
 // hcd/hub.rs: a hub's ten ports, by value.
-use crate::store::CHILDREN;
-use crate::store::MAX_CHILDREN;
-use crate::store::PORT_STATUS;
-use crate::store::PORTS;
-use crate::store::byte_at;
-use crate::store::set_byte;
-use crate::store::set_bytes;
-use crate::store::set_u32;
-use crate::store::u32_at;
+use usb_store::CHILDREN;
+use usb_store::MAX_CHILDREN;
+use usb_store::PORT_STATUS;
+use usb_store::PORTS;
+use usb_store::byte_at;
+use usb_store::set_byte;
+use usb_store::set_bytes;
+use usb_store::set_u32;
+use usb_store::u32_at;
 ghost use mathlib.Core.Path.{_≡_};
 ghost use Prim.Native.Nat.{_<_};
 ghost use lib.ListN.{length};
-ghost use Rattle.usb_device.specs.Layout.{Places, StoreLength};
+ghost use Rattle.usb_store.specs.Layout.{Places, StoreLength};
 ghost use Rattle.usb_device.specs.Ports.{hubAt, withStatuses, withHub, newHub};
 
 // What the ports' functions read of a hub: bytes 56 to 106 of its place.

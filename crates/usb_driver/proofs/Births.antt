@@ -1,5 +1,5 @@
 -- A new child: a place is taken, and it stands above its hub. Assumes nothing.
-use mathlib.Core.Path.{_≡_, refl, sym, ap, _∙_, subst}
+use mathlib.Core.Path.{_≡_, refl, ap, subst}
 use mathlib.Core.Bool.{Bool, true, false, cond, false≢true}
 use mathlib.Core.List.{List, [], _∷_}
 use Prim.Native.Nat.{ℕ, _+_, _≤_, _<_}
@@ -7,11 +7,12 @@ use native.Mathlib.Omega.{arith}
 use borrow.Author.Tests.{eqb-false}
 use lib.Dec.{eqb}
 use Rattle.usb_types.specs.declared.types.ErrorCode.the-variants.{BusFull}
-use Rattle.usb_device.specs.Layout.{Speed, Status}
-use Rattle.usb_device.specs.Access.{withBytes}
-use Rattle.usb_device.specs.Device.{Powered, newDevice, firstUnused, freePlaces}
+use Rattle.usb_store.specs.Layout.{Speed, Status}
+use Rattle.usb_store.specs.Access.{withBytes}
+use Rattle.usb_store.specs.Values.{Powered}
+use Rattle.usb_device.specs.Device.{newDevice, firstUnused, freePlaces}
 use Rattle.usb_device.proofs.Free.{first-most}
-use Rattle.usb_model.specs.Programs.{Ran, done, fail, halt, on, _>>=_, _>>_, return, skip, throw, look, change, when}
+use Rattle.usb_model.specs.Programs.{Ran, done, fail, halt, on, _>>=_, _>>_, return, skip, throw, look, change, when, endOf}
 use Rattle.usb_model.specs.declared.Progress.{Progress}
 use Rattle.usb_model.specs.World.{World, M, put, putBytes}
 use Rattle.usb_model.specs.Usbd.{usbAllocateDevice}
@@ -24,7 +25,7 @@ use Rattle.usb_model.proofs.Functions.{small}
 use Rattle.usb_types.specs.declared.types.Answer.the-variants.{Ok}
 use Rattle.usb_transfer.specs.Runs.{here, Ends}
 use Rattle.usb_transfer.proofs.Steps.{put-then, put-last, put-bytes-fit}
-use Rattle.usb_child.specs.Parts.{resetChanged, placeChild, newChild}
+use Rattle.usb_child.specs.Parts.{newChild}
 use Rattle.usb_driver.specs.Bus.{Bus}
 use Rattle.usb_driver.proofs.Reaches.{reached, at-place}
 use Rattle.usb_driver.proofs.Goes.{resets, places}
@@ -70,11 +71,6 @@ valueOf z (done a w) = a
 valueOf z (fail e w) = z
 valueOf z (halt h w) = z
 
-abbrev worldOf : {A : Type 0} → Ran World A → World
-worldOf (done a w) = w
-worldOf (fail e w) = w
-worldOf (halt h w) = w
-
 allocated : (w : World) (place : ℕ) (v : World) → Good w → usbAllocateDevice w ≡ done place v → Allocated w place v
 unfolding usbAllocateDevice _>>=_ _>>_ look when throw skip putBytes change return
 allocated w place v g e = go (firstUnused (w .store)) refl (eqb (firstUnused (w .store)) 32) refl e
@@ -87,9 +83,9 @@ allocated w place v g e = go (firstUnused (w .store)) refl (eqb (firstUnused (w 
     go p h false t e =
         let inside : p < 32 = omega (arith, eqb-false p 32 t, h, first-most (w .store)) in
         let is : p ≡ place = ap (valueOf 0) e in
-        let there = ap worldOf e in
+        let there = ap endOf e in
         subst (λ (x : World). Allocated w place x) there
-        (subst (λ (q : ℕ). Allocated w q (worldOf (program p false))) is
+        (subst (λ (q : ℕ). Allocated w q (endOf (program p false))) is
         (record { good = store-good _ (new-follows g p h inside) g; is = h; inside = inside; used = first-new g p h inside; free = free-new g p h inside }))
 
 -- the bus of a new child
@@ -107,7 +103,7 @@ born hub port place {w} {v} b l e =
     let put = parts-next _ _ (took .middle) place v (took .last) in
     let there : Reach (took .middle) (took .value + 1) (put .middle) = walked-to (places hub port (took .value) l (omega (arith, here .used, new .is)) (omega arith) (new .inside)) (reach-here (took .middle) (new .good) (new .used)) (put .first) in
     let same : took .value ≡ place = ap (valueOf 0) (put .last) in
-    let end : put .middle ≡ v = ap worldOf (put .last) in
+    let end : put .middle ≡ v = ap endOf (put .last) in
     let reached : Reach (took .middle) (took .value + 1) v = subst (Reach (took .middle) (took .value + 1)) end there in
     record {
       bus = record { fit = e .fit; good = reached .good; used = omega (arith, reached .used, same); inside = omega (arith, new .inside, same) };

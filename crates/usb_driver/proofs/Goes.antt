@@ -1,14 +1,14 @@
 -- The lines of attach, hub attach, port check and connection change that attach no device walk. Assumes nothing.
-use Prim.Native.Nat.{ℕ, _+_, _<_}
+use Prim.Native.Nat.{ℕ, _<_}
 use native.Mathlib.Omega.{arith}
-use Rattle.usb_device.specs.Layout.{Number, Speed, Status, PortNumber, Parent, Hub, Child}
+use Rattle.usb_store.specs.Layout.{Number, Speed, Status, PortNumber, Parent, Hub, Child}
 use Rattle.usb_model.specs.World.{World}
-use Rattle.usb_model.specs.Features.{bit, C-PORT-ENABLE}
 use Rattle.usb_model.proofs.Keeps.{bind, next, gives, throws, succeeds, attempts, ignores, whens}
 use Rattle.usb_model.proofs.Walks.{Goes}
 use Rattle.usb_model.proofs.Primitives.{gets, puts, puts-most, puts-child, waits, frames}
 use Rattle.usb_model.proofs.Functions.{small, read-device-descriptor, set-address, configures, read-hub-descriptor, get-status, change-feature, power-on, port-get-status, port-status, reset2, speed-low}
-use Rattle.usb_attach.specs.Parts.{defaultState, addressed, described, enumerated, hubDescribed, hubPowered, hubReady}
+use Rattle.usb_attach.specs.Parts.{defaultState, addressed, described, enumerated}
+use Rattle.usb_hub_attach.specs.Parts.{hubDescribed, hubPowered, hubReady}
 use Rattle.usb_child.specs.Parts.{startChange, resetChanged, placeChild}
 use Rattle.usb_check.specs.Parts.{clearIf, overCurrent, clearChanges, startCheck}
 

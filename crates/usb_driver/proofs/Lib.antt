@@ -2,4 +2,3 @@ pub mod Lines
 pub mod Goes
 pub mod Reaches
 pub mod Births
-pub mod Scans

@@ -1,21 +1,20 @@
 -- The definitions of attach, hub attach, port check and connection change as the code has them: lines under a name, then the rest.
 -- Assumes nothing.
 use mathlib.Core.Path.{_≡_, refl, sym, _∙_}
-use mathlib.Core.Bool.{Bool, true, false, not, _&&_}
+use mathlib.Core.Bool.{Bool, true, false, _&&_}
 use Prim.Native.Nat.{ℕ}
-use lib.Dec.{eqb}
 use Rattle.usb_types.specs.Descriptors.{isHubClass}
 use Rattle.usb_types.specs.declared.types.Answer.{Answer}
-use Rattle.usb_device.specs.Layout.{InterfaceClass, MaxChildren, Child}
-use Rattle.usb_model.specs.Programs.{Ran, done, fail, halt, on, _>>=_, _>>_, return, skip, look, caught, attempt, ignore, when, each}
+use Rattle.usb_store.specs.Layout.{InterfaceClass, MaxChildren}
+use Rattle.usb_model.specs.Programs.{Ran, done, fail, halt, on, _>>=_, _>>_, return, skip, look, attempt, ignore, when, each}
 use Rattle.usb_model.specs.World.{World, M, get}
-use Rattle.usb_model.specs.Features.{PORT-CONNECTION, PORT-ENABLE, C-PORT-ENABLE, bit}
-use Rattle.usb_model.specs.Hub.{clearPortFeature, hubPortConnectionChanged, hubCheckConnection, hubAttach}
+use Rattle.usb_model.specs.Features.{C-PORT-ENABLE, bit}
+use Rattle.usb_model.specs.Hub.{hubPortConnectionChanged, hubCheckConnection, hubAttach}
 use Rattle.usb_model.specs.Attach.{usbAttachDevice}
 use Rattle.usb_transfer.specs.Runs.{Ends}
-use Rattle.usb_attach.specs.Parts.{defaultState, addressed, described, enumerated, hubDescribed, hubPowered, hubReady}
+use Rattle.usb_attach.specs.Parts.{defaultState, addressed, described, enumerated}
+use Rattle.usb_hub_attach.specs.Parts.{hubDescribed, hubPowered, hubReady}
 use Rattle.usb_child.specs.Parts.{startChange, noNewDevice, resetChanged, placeChild, newChild}
-use Rattle.usb_check.specs.declared.Due.{Due}
 use Rattle.usb_check.specs.Parts.{clearIf, overCurrent, clearChanges, isDropped, isChanged, startCheck, endCheck}
 
 -- two programs that run alike

@@ -6,23 +6,24 @@ use native.Mathlib.Omega.{arith}
 use Rattle.usb_types.specs.declared.types.Answer.{Answer}
 use Rattle.usb_types.specs.declared.types.Answer.the-variants.{Ok, Error, Stop}
 use Rattle.usb_device.specs.Device.{freePlaces}
-use Rattle.usb_model.specs.Programs.{Ran, ignore, when, each}
+use Rattle.usb_model.specs.Programs.{Ran, ignore, when, each, endOf}
 use Rattle.usb_model.specs.World.{World, M}
 use Rattle.usb_model.specs.Hub.{hubPortConnectionChanged, hubCheckConnection}
 use Rattle.usb_model.specs.Attach.{usbAttachDevice, attachBelow}
-use Rattle.usb_model.proofs.Keeps.{Left, left, left-holds}
+use Rattle.usb_model.proofs.Keeps.{Left, left-holds}
 use Rattle.usb_model.proofs.Walks.{Reach, Walks, reach-here}
 use Rattle.usb_model.proofs.Pairs.{ignores₂, whens₂}
 use Rattle.usb_model.proofs.Cycle.{attach-walks, connection-changed, check-connection}
 use Rattle.usb_transfer.specs.Runs.{gave, Ends}
 use Rattle.usb_transfer.proofs.Steps.{Going}
-use Rattle.usb_attach.specs.Parts.{enumerated, hubReady}
+use Rattle.usb_attach.specs.Parts.{enumerated}
+use Rattle.usb_hub_attach.specs.Parts.{hubReady}
 use Rattle.usb_check.specs.declared.Due.{Due}
 use Rattle.usb_check.specs.Parts.{startCheck}
 use Rattle.usb_driver.specs.Bus.{Bus}
 use Rattle.usb_driver.proofs.Goes.{enumerates, readies, starts}
 
-left-gave : {A : Type 0} (a : Answer) (x : A) (v : World) → left (gave a x v) ≡ v
+left-gave : {A : Type 0} (a : Answer) (x : A) (v : World) → endOf (gave a x v) ≡ v
 left-gave Ok x v = refl
 left-gave (Error e) x v = refl
 left-gave (Stop h) x v = refl
@@ -79,6 +80,6 @@ at-fuel place free (suc m) h f = f m (omega arith)
 abbrev pub checksAll : ℕ → ℕ → ℕ → ℕ → M (Unit {0})
 checksAll n hub count port = each count port (λ port. ignore (hubCheckConnection (attachBelow n) hub port))
 
-pub record Ports (hub count port : ℕ) (w v : World) : Type 0 where
+pub record PortsChecked (hub count port : ℕ) (w v : World) : Type 0 where
   pub after : After hub w v
   pub goes : (n : ℕ) → freePlaces (w .store) ≤ n → Going (checksAll n hub count 0) w (checksAll n hub (count - port) port) v

@@ -2,7 +2,7 @@
 use Prim.Native.Nat.{ℕ, _<_}
 use denote.Ref.{RefT, now}
 use mathlib.Core.List.{List}
-use Rattle.usb_device.specs.Layout.{Places}
+use Rattle.usb_store.specs.Layout.{Places}
 use Rattle.usb_device.specs.Device.{firstUnused}
 use Rattle.usb_model.specs.declared.Progress.{Progress}
 use Rattle.usb_model.specs.World.{World}

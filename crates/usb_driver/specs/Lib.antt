@@ -1,2 +1,1 @@
 pub mod Bus
-pub mod Parts

@@ -1,31 +1,24 @@
-// device/hub.rs: hub attach, port check and connection change, which call each other and attach; scan; the check of a child.
+// device/hub.rs: hub attach, port check and connection change, which call each other and attach.
 use crate::usbd::usb_attach_device;
-use usb_attach::hub::ready_hub;
 use usb_check::end_check;
 use usb_check::start_check;
 use usb_child::new_child;
-use usb_device::hub::load_hub;
-use usb_device::store::HUB;
-use usb_device::store::MAX_CHILDREN;
-use usb_device::store::byte_at;
-use usb_hub::ports::child_of;
 use usb_hub::requests::ignore;
+use usb_hub_attach::ready_hub;
 use usb_model::Progress;
-use usb_port::ChildPort;
-use usb_port::port_of_child;
+use usb_store::MAX_CHILDREN;
+use usb_store::byte_at;
 use usb_transfer::log::Step;
 use usb_types::types::Answer;
-use usb_types::types::ErrorCode;
 use usb_types::types::wide;
-ghost use Prim.Native.Nat.{ℕ, suc, _+_, _≤_, _<_};
-ghost use Rattle.usb_device.specs.Layout.{Places};
+ghost use Prim.Native.Nat.{ℕ, _≤_, _<_};
+ghost use Rattle.usb_store.specs.Layout.{Ports};
 ghost use Rattle.usb_device.specs.Device.{freePlaces};
 ghost use Rattle.usb_model.specs.Programs.{ignore, when};
 ghost use Rattle.usb_model.specs.Hub as Model;
 ghost use Rattle.usb_model.specs.Attach.{attachBelow};
 ghost use Rattle.usb_transfer.specs.Runs.{Does};
 ghost use Rattle.usb_driver.specs.Bus.{OnBus};
-ghost use Rattle.usb_driver.specs.Parts.{checkChild};
 
 pub fn hub_attach(
     store: &mut [u8],
@@ -72,8 +65,9 @@ pub fn hub_check_connection(
     hub: usize,
     port: usize,
 ) -> Step
-    requires { ⌜ OnBus hub store log outcomes at × (port < 10) ⌝ }
-    ensures { λ r. ⌜ ((n : ℕ) → freePlaces (now (store .entry)) ≤ n → Does (Model.hubCheckConnection (attachBelow n) hub port) store log outcomes at r) ⌝ }
+    requires { ⌜ OnBus hub store log outcomes at × (port < Ports) ⌝ }
+    ensures { λ r. ⌜ ((n : ℕ) → freePlaces (now (store .entry)) ≤ n
+        → Does (Model.hubCheckConnection (attachBelow n) hub port) store log outcomes at r) ⌝ }
 {
     let found = start_check(store, log, outcomes, at, hub, port);
     let started = found.step;
@@ -108,8 +102,9 @@ fn change_if(
     port: usize,
     due: bool,
 ) -> Step
-    requires { ⌜ OnBus hub store log outcomes at × (port < 10) ⌝ }
-    ensures { λ r. ⌜ ((n : ℕ) → freePlaces (now (store .entry)) ≤ n → Does (when due (ignore (Model.hubPortConnectionChanged (attachBelow n) hub port))) store log outcomes at r) ⌝ }
+    requires { ⌜ OnBus hub store log outcomes at × (port < Ports) ⌝ }
+    ensures { λ r. ⌜ ((n : ℕ) → freePlaces (now (store .entry)) ≤ n
+        → Does (when due (ignore (Model.hubPortConnectionChanged (attachBelow n) hub port))) store log outcomes at r) ⌝ }
 {
     if due {
         return ignore(hub_port_connection_changed(store, log, outcomes, at, hub, port));
@@ -132,8 +127,9 @@ pub fn hub_port_connection_changed(
     hub: usize,
     port: usize,
 ) -> Step
-    requires { ⌜ OnBus hub store log outcomes at × (port < 10) ⌝ }
-    ensures { λ r. ⌜ ((n : ℕ) → freePlaces (now (store .entry)) ≤ n → Does (Model.hubPortConnectionChanged (attachBelow n) hub port) store log outcomes at r) ⌝ }
+    requires { ⌜ OnBus hub store log outcomes at × (port < Ports) ⌝ }
+    ensures { λ r. ⌜ ((n : ℕ) → freePlaces (now (store .entry)) ≤ n
+        → Does (Model.hubPortConnectionChanged (attachBelow n) hub port) store log outcomes at r) ⌝ }
 {
     let born = new_child(store, log, outcomes, at, hub, port);
     let step = born.step;
@@ -143,115 +139,4 @@ pub fn hub_port_connection_changed(
     };
     let next = step.at;
     usb_attach_device(store, log, outcomes, next, born.place)
-}
-
-// Every port in turn, and the hubs below.
-pub fn hub_check_for_change(
-    store: &mut [u8],
-    log: &mut [u8],
-    outcomes: &[u8],
-    at: Progress,
-    hub: usize,
-) -> Step
-    requires { ⌜ OnBus hub store log outcomes at ⌝ }
-    ensures { λ r. ⌜ ((n m : ℕ) → freePlaces (now (store .entry)) ≤ n → Places ≤ hub + m → Does (Model.hubCheckForChange (attachBelow n) m hub) store log outcomes at r) ⌝ }
-{
-    let ports = wide(byte_at(store, hub, MAX_CHILDREN));
-    let mut progress = at;
-    let mut port = 0;
-    while port < ports {
-        let step = scan_port(store, log, outcomes, progress, hub, port);
-        let answer = step.answer;
-        let Answer::Ok = answer else {
-            return step;
-        };
-        progress = step.at;
-        port += 1;
-    }
-    Step {
-        answer: Answer::Ok,
-        at: Progress {
-            logged: progress.logged,
-            taken: progress.taken,
-            requests: progress.requests,
-        },
-    }
-}
-
-// A failed check passes over the child, and so does a child without hub data.
-fn scan_port(
-    store: &mut [u8],
-    log: &mut [u8],
-    outcomes: &[u8],
-    at: Progress,
-    hub: usize,
-    port: usize,
-) -> Step
-    requires { ⌜ OnBus hub store log outcomes at × (port < 10) ⌝ }
-    ensures { λ r. ⌜ ((n m : ℕ) → freePlaces (now (store .entry)) ≤ n → Places ≤ hub + suc m → Does (Model.scanPort (attachBelow n) (Model.hubCheckForChange (attachBelow n) m) hub port) store log outcomes at r) ⌝ }
-{
-    let checked = hub_check_connection(store, log, outcomes, at, hub, port);
-    let answer = checked.answer;
-    let Answer::Ok = answer else {
-        return ignore(checked);
-    };
-    let child = wide(child_of(load_hub(store, hub), port));
-    if child == 0 {
-        return ignore(checked);
-    }
-    let place = child - 1;
-    if byte_at(store, place, HUB) == 0 {
-        return ignore(checked);
-    }
-    let next = checked.at;
-    hub_check_for_change(store, log, outcomes, next, place)
-}
-
-// The check of a child's port; another device there is an error.
-fn check_child(
-    store: &mut [u8],
-    log: &mut [u8],
-    outcomes: &[u8],
-    at: Progress,
-    hub: usize,
-    child: usize,
-    port: usize,
-) -> Step
-    requires { ⌜ OnBus hub store log outcomes at × (child < Places) × (port < 10) ⌝ }
-    ensures { λ r. ⌜ ((n : ℕ) → freePlaces (now (store .entry)) ≤ n → Does (checkChild (attachBelow n) hub child port) store log outcomes at r) ⌝ }
-{
-    let checked = hub_check_connection(store, log, outcomes, at, hub, port);
-    let answer = checked.answer;
-    let Answer::Ok = answer else {
-        return checked;
-    };
-    if wide(child_of(load_hub(store, hub), port)) != child + 1 {
-        let at = checked.at;
-        return Step {
-            answer: Answer::Error(ErrorCode::Device),
-            at,
-        };
-    }
-    checked
-}
-
-pub fn hub_check_connection_device(
-    store: &mut [u8],
-    log: &mut [u8],
-    outcomes: &[u8],
-    at: Progress,
-    hub: usize,
-    child: usize,
-) -> Step
-    requires { ⌜ OnBus hub store log outcomes at × (child < Places) ⌝ }
-    ensures { λ r. ⌜ ((n : ℕ) → freePlaces (now (store .entry)) ≤ n → Does (Model.hubCheckConnectionDevice (attachBelow n) hub child) store log outcomes at r) ⌝ }
-{
-    let found = port_of_child(store, hub, child);
-    match found {
-        ChildPort::Nowhere => Step {
-            answer: Answer::Error(ErrorCode::Argument),
-            at,
-        },
-        ChildPort::At(port) => check_child(store, log, outcomes, at, hub, child, port),
-    }
 }

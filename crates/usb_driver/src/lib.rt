@@ -1,3 +1,3 @@
-// Attach, hub attach, port check and connection change, which call each other; scan; the attach of the root hub.
+// Attach, hub attach, port check and connection change, which call each other; the attach of the root hub.
 pub mod hub;
 pub mod usbd;

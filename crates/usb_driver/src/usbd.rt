@@ -1,15 +1,15 @@
 // usbd.rs: the attach of a device, and of the root hub.
 use crate::hub::hub_attach;
-use usb_attach::device::enumerate;
+use usb_attach::enumerate;
 use usb_device::device::POWERED;
-use usb_device::store::INTERFACE_CLASS;
-use usb_device::store::PLACES;
-use usb_device::store::SPEED;
-use usb_device::store::STATUS;
-use usb_device::store::byte_at;
-use usb_device::store::set_byte;
 use usb_enumerate::usb_allocate_device;
 use usb_model::Progress;
+use usb_store::INTERFACE_CLASS;
+use usb_store::PLACES;
+use usb_store::SPEED;
+use usb_store::STATUS;
+use usb_store::byte_at;
+use usb_store::set_byte;
 use usb_transfer::log::Step;
 use usb_types::descriptors::is_hub_class;
 use usb_types::types::Answer;

@@ -9,26 +9,26 @@ use lib.Dec.{eqb}
 use lib.ListN.{length}
 use Rattle.usb_types.specs.declared.types.Answer.{Answer}
 use Rattle.usb_types.specs.declared.types.Answer.the-variants.{Ok, Error, Stop}
-use Rattle.usb_device.specs.Layout.{Places}
-use Rattle.usb_device.specs.Access.{withBytes}
+use Rattle.usb_store.specs.Layout.{Places}
+use Rattle.usb_store.specs.Access.{withBytes}
 use Rattle.usb_device.specs.Device.{newDevice, firstUnused}
 use Rattle.usb_model.specs.declared.Progress.{Progress}
-use Rattle.usb_model.specs.Programs.{_>>=_, _>>_, return}
+use Rattle.usb_model.specs.Programs.{_>>=_, return}
 use Rattle.usb_model.specs.World.{World, M}
 use Rattle.usb_model.specs.Usbd.{usbAllocateDevice}
-use Rattle.usb_transfer.specs.Runs.{here, Fit, Ends, dataOf, Gives}
+use Rattle.usb_transfer.specs.Runs.{here, Fit, Ends, EndsSo, dataOf, Given, Gives}
 use Rattle.usb_transfer.proofs.Steps.{NotOk, bound, bound-ended, looked, put-bytes-then, put-bytes-fit, unless, thrown, returned}
 use Rattle.usb_message.proofs.Messages.{data-length}
-use Rattle.usb_enumerate.specs.Parts.{Counted, placed}
+use Rattle.usb_enumerate.specs.Parts.{placed}
 
 -- a read of which only the number of bytes is given
-pub counted : (m : M (List ℕ)) (w v : World) (a : Answer) (n : ℕ) → Gives m w a n v → Counted (m >>= (λ bytes. return (length bytes))) w a n v
+pub counted : (m : M (List ℕ)) (w v : World) (a : Answer) (n : ℕ) → Gives m w a n v → EndsSo (Given a (w .outcomes) (w .at .taken) n) (m >>= (λ bytes. return (length bytes))) w a n v
 unfolding NotOk
 counted m w v Ok n g =
     let long : length (dataOf (w .outcomes) (w .at .taken) n) ≡ n = data-length (w .outcomes) (w .at .taken) n (g .given) in
-    record { ends = bound _ (g .ends) (subst (λ (k : ℕ). Ends (return (length (dataOf (w .outcomes) (w .at .taken) n))) v Ok k v) long (returned _ (g .ends .fit))); given = g .given }
-counted m w v (Error e) n g = record { ends = bound-ended _ _ (g .ends) tt; given = g .given }
-counted m w v (Stop h) n g = record { ends = bound-ended _ _ (g .ends) tt; given = g .given }
+    record { ends = bound _ (g .ends) (subst (λ (k : ℕ). Ends (return (length (dataOf (w .outcomes) (w .at .taken) n))) v Ok k v) long (returned _ (g .ends .fit))); so = g .given }
+counted m w v (Error e) n g = record { ends = bound-ended _ _ (g .ends) tt; so = g .given }
+counted m w v (Stop h) n g = record { ends = bound-ended _ _ (g .ends) tt; so = g .given }
 
 -- ---- the place of a new device
 

@@ -5,18 +5,18 @@ use usb_device::device::HIGH;
 use usb_device::device::LOW;
 use usb_device::device::first_unused;
 use usb_device::device::put_new_device;
-use usb_device::store::MAX_PACKET_SIZE0;
-use usb_device::store::NUMBER;
-use usb_device::store::PLACES;
-use usb_device::store::SPEED;
-use usb_device::store::STATUS;
-use usb_device::store::byte_at;
-use usb_device::store::set_byte;
 use usb_message::Transfer;
 use usb_message::usb_control_message;
 use usb_message::usb_get_descriptor;
 use usb_model::Buffer;
 use usb_model::Progress;
+use usb_store::MAX_PACKET_SIZE0;
+use usb_store::NUMBER;
+use usb_store::PLACES;
+use usb_store::SPEED;
+use usb_store::STATUS;
+use usb_store::byte_at;
+use usb_store::set_byte;
 use usb_transfer::log::Step;
 use usb_transfer::log::micro_delay;
 use usb_types::request::DEVICE;
@@ -27,7 +27,7 @@ use usb_types::types::ErrorCode;
 ghost use mathlib.Core.Path.{_≡_};
 ghost use Prim.Native.Nat.{_≤_, _<_};
 ghost use lib.ListN.{length};
-ghost use Rattle.usb_device.specs.Layout.{Places, StoreLength};
+ghost use Rattle.usb_store.specs.Layout.{Places, StoreLength};
 ghost use Rattle.usb_model.specs.Usbd as Model;
 ghost use Rattle.usb_transfer.specs.Runs.{Ready, Does};
 ghost use Rattle.usb_enumerate.specs.Parts.{firstSize, Counts, Allocates};
@@ -45,7 +45,7 @@ fn read_device_descriptor(
     ensures { λ r. ⌜ Counts (Model.readDeviceDescriptor place minimum) store log outcomes at r ⌝ }
 {
     let buffer = Buffer {
-        field: usb_device::store::DEVICE_DESCRIPTOR,
+        field: usb_store::DEVICE_DESCRIPTOR,
         room: 18,
     };
     usb_get_descriptor(

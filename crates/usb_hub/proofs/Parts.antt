@@ -1,9 +1,7 @@
 -- The ways through the functions of a hub, over plain values. Assumes nothing.
 use mathlib.Core.Path.{_≡_, refl, sym, ap, _∙_}
-use mathlib.Core.Bool.{Bool, true, false, cond}
-use Prim.Native.Nat.{ℕ, _+_, _*_}
+use Prim.Native.Nat.{ℕ, _*_}
 use borrow.Author.Tests.{eq-eqb, ne-eqb}
-use Rattle.usb_types.specs.Requests.{ClearFeature, SetFeature, ToPort, deviceRequest}
 use Rattle.usb_types.specs.declared.types.Halt.{Halt}
 use Rattle.usb_types.specs.declared.types.Answer.{Answer}
 use Rattle.usb_types.specs.declared.types.Answer.the-variants.{Ok, Error, Stop}
@@ -12,7 +10,7 @@ use Rattle.usb_model.specs.World.{World, M}
 use Rattle.usb_transfer.specs.declared.log.Step.{Step}
 use Rattle.usb_transfer.specs.Runs.{gave, Ends}
 use Rattle.usb_transfer.proofs.Steps.{NotStop}
-use Rattle.usb_hub.specs.Parts.{passed, ignored, featureRequest, powerDelay}
+use Rattle.usb_hub.specs.Parts.{passed, ignored, powerDelay}
 
 -- ---- a result that is not looked at
 
@@ -38,10 +36,6 @@ ignores {v = v} {a = a} d = record { is = ap (λ r. on (caught r) (λ _. skip)) 
     go (Stop h) = refl
 
 -- ---- requests and waits
-
-pub feature-is : (feature port : ℕ) (set : Bool) → cond set (deviceRequest ToPort SetFeature feature (port + 1) 0) (deviceRequest ToPort ClearFeature feature (port + 1) 0) ≡ featureRequest feature port set
-feature-is feature port true = refl
-feature-is feature port false = refl
 
 pub delay-none : (count : ℕ) → count ≡ 0 → 100000 ≡ powerDelay count
 delay-none count e = simp (eq-eqb count 0 e)

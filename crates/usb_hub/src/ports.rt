@@ -7,6 +7,7 @@ ghost use mathlib.Core.Path.{_≡_};
 ghost use Prim.Native.Nat.{_/_, _%_, _<_};
 ghost use lib.Dec.{eqb};
 ghost use lib.ListN.{getD};
+ghost use Rattle.usb_store.specs.Layout.{Ports};
 ghost use Rattle.usb_model.specs.Hub.{speedOf};
 
 // Bits of wPortStatus, USB 2.0 table 11-21.
@@ -51,7 +52,7 @@ pub fn speed_of(status: u32) -> u8
 }
 
 pub fn status_of(hub: HubDevice, port: usize) -> u32
-    requires { ⌜ port < 10 ⌝ }
+    requires { ⌜ port < Ports ⌝ }
     ensures { λ r. ⌜ r ≡ getD (hub .«port_status») port 0 ⌝ }
 {
     let statuses = hub.port_status;
@@ -60,7 +61,7 @@ pub fn status_of(hub: HubDevice, port: usize) -> u32
 
 // 0 none, else place + 1.
 pub fn child_of(hub: HubDevice, port: usize) -> u8
-    requires { ⌜ port < 10 ⌝ }
+    requires { ⌜ port < Ports ⌝ }
     ensures { λ r. ⌜ r ≡ getD (hub .children) port 0 ⌝ }
 {
     let children = hub.children;

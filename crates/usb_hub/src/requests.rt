@@ -1,13 +1,13 @@
 // The requests to a hub and to its ports.
-use usb_device::store::HUB_STATUS;
-use usb_device::store::MAX_CHILDREN;
-use usb_device::store::PORT_STATUS;
-use usb_device::store::POWER_GOOD_DELAY;
-use usb_device::store::byte_at;
 use usb_message::control;
 use usb_message::read;
 use usb_model::Buffer;
 use usb_model::Progress;
+use usb_store::HUB_STATUS;
+use usb_store::MAX_CHILDREN;
+use usb_store::PORT_STATUS;
+use usb_store::POWER_GOOD_DELAY;
+use usb_store::byte_at;
 use usb_transfer::log::Step;
 use usb_transfer::log::micro_delay;
 use usb_types::request::CLEAR_FEATURE;
@@ -21,7 +21,7 @@ use usb_types::types::Answer;
 use usb_types::types::wide;
 ghost use mathlib.Core.Path.{_≡_};
 ghost use Prim.Native.Nat.{_≤_, _<_};
-ghost use Rattle.usb_device.specs.Layout.{Places};
+ghost use Rattle.usb_store.specs.Layout.{Places, Ports};
 ghost use Rattle.usb_model.specs.Hub as Model;
 ghost use Rattle.usb_transfer.specs.Runs.{Ready, Does};
 ghost use Rattle.usb_hub.specs.Parts.{ignored, featureRequest, powerDelay, powerPorts};
@@ -122,7 +122,7 @@ pub fn hub_port_get_status(
     hub: usize,
     port: usize,
 ) -> Step
-    requires { ⌜ Ready store log outcomes at × (hub < Places) × (port < 10) ⌝ }
+    requires { ⌜ Ready store log outcomes at × (hub < Places) × (port < Ports) ⌝ }
     ensures { λ r. ⌜ Does (Model.hubPortGetStatus hub port) store log outcomes at r ⌝ }
 {
     let request = device_request(PORT, GET_STATUS, 0, (port + 1) as u16, 4);
@@ -146,32 +146,24 @@ fn power_ports(
     requires { ⌜ Ready store log outcomes at × (hub < Places) × (count ≤ 256) ⌝ }
     ensures { λ r. ⌜ Does (powerPorts hub count) store log outcomes at r ⌝ }
 {
-    let mut progress = at;
+    let mut next = at;
     let mut port = 0;
     while port < count {
-        let step = ignore(hub_change_port_feature(
-            store,
-            log,
-            outcomes,
-            progress,
-            hub,
-            PORT_POWER,
-            port,
-            true,
-        ));
+        let set = hub_change_port_feature(store, log, outcomes, next, hub, PORT_POWER, port, true);
+        let step = ignore(set);
         let answer = step.answer;
         let Answer::Ok = answer else {
             return step;
         };
-        progress = step.at;
+        next = step.at;
         port += 1;
     }
     Step {
         answer: Answer::Ok,
         at: Progress {
-            logged: progress.logged,
-            taken: progress.taken,
-            requests: progress.requests,
+            logged: next.logged,
+            taken: next.taken,
+            requests: next.requests,
         },
     }
 }
@@ -196,7 +188,7 @@ pub fn hub_power_on(
     requires { ⌜ Ready store log outcomes at × (hub < Places) ⌝ }
     ensures { λ r. ⌜ Does (Model.hubPowerOn hub) store log outcomes at r ⌝ }
 {
-    if byte_at(store, hub, usb_device::store::HUB) != WITH_DESCRIPTOR {
+    if byte_at(store, hub, usb_store::HUB) != WITH_DESCRIPTOR {
         return Step {
             answer: Answer::Ok,
             at: Progress {

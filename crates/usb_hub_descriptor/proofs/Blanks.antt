@@ -6,13 +6,13 @@ use Prim.Native.Nat.{ℕ}
 use borrow.Author.Tests.{eq-eqb, ne-eqb}
 use lib.Dec.{eqb}
 use Rattle.usb_types.specs.declared.types.Answer.{Answer}
-use Rattle.usb_device.specs.Layout.{Hub, HubDescriptor}
-use Rattle.usb_device.specs.Access.{byteAt, withByte, withBytes}
+use Rattle.usb_store.specs.Layout.{Hub, HubDescriptor}
+use Rattle.usb_store.specs.Access.{byteAt, withByte, withBytes}
+use Rattle.usb_store.specs.Values.{WithoutDescriptor, WithDescriptor}
 use Rattle.usb_device.specs.Device.{blank}
 use Rattle.usb_model.specs.declared.Progress.{Progress}
 use Rattle.usb_model.specs.Programs.{_>>_, skip, change, when}
 use Rattle.usb_model.specs.World.{World, M, put, putBytes}
-use Rattle.usb_model.specs.Hub.{WithoutDescriptor, WithDescriptor}
 use Rattle.usb_transfer.specs.Runs.{here, Ends}
 use Rattle.usb_hub_descriptor.specs.Parts.{withBlank}
 

@@ -6,13 +6,13 @@ use lib.Dec.{eqb}
 use lib.ListN.{getD}
 use Rattle.usb_types.specs.Requests.{ToHub}
 use Rattle.usb_types.specs.Descriptors as Descriptors
-use Rattle.usb_device.specs.Layout.{Hub, HubDescriptor}
-use Rattle.usb_device.specs.Access.{byteAt, withByte, withBytes}
+use Rattle.usb_store.specs.Layout.{Hub, HubDescriptor}
+use Rattle.usb_store.specs.Access.{byteAt, withByte, withBytes}
+use Rattle.usb_store.specs.Values.{WithoutDescriptor, WithDescriptor}
 use Rattle.usb_device.specs.Device.{blank}
 use Rattle.usb_model.specs.Programs.{_>>=_, _>>_, skip, when}
 use Rattle.usb_model.specs.World.{M, get, put, putBytes}
 use Rattle.usb_model.specs.Transfer.{into, usbGetDescriptor}
-use Rattle.usb_model.specs.Hub.{WithoutDescriptor, WithDescriptor}
 
 -- the lines of `hubReadDescriptor`
 unfoldable pub withBlank : List ℕ → ℕ → List ℕ

@@ -15,9 +15,9 @@ use Rattle.usb_types.specs.declared.types.ErrorCode.the-variants.{Device}
 use Rattle.usb_types.specs.declared.types.Halt.{Halt}
 use Rattle.usb_types.specs.declared.types.Answer.{Answer}
 use Rattle.usb_types.specs.declared.types.Answer.the-variants.{Ok, Error, Stop}
-use Rattle.usb_device.specs.Layout as Layout
-use Rattle.usb_device.specs.Layout.{Number, LastTransfer}
-use Rattle.usb_device.specs.Access.{byteAt, withBytes, withNumber}
+use Rattle.usb_store.specs.Layout as Layout
+use Rattle.usb_store.specs.Layout.{Number, LastTransfer}
+use Rattle.usb_store.specs.Access.{byteAt, withBytes, withNumber}
 use Rattle.usb_model.specs.declared.Progress.{Progress}
 use Rattle.usb_model.specs.declared.Buffer.{Buffer}
 use Rattle.usb_model.specs.Programs.{on, _>>=_, _>>_, return, look, change, succeed, ran}

@@ -8,9 +8,9 @@ use Rattle.usb_types.specs.Actions.{packetSize}
 use Rattle.usb_types.specs.declared.types.Answer.{Answer}
 use Rattle.usb_types.specs.declared.types.Answer.the-variants.{Ok, Error, Stop}
 use Rattle.usb_types.specs.declared.pipe.UsbPipeAddress.{UsbPipeAddress}
-use Rattle.usb_device.specs.Layout.{PlaceLength, Places, Speed, LastTransfer, MaxPacketSize0}
-use Rattle.usb_device.specs.Layout as Layout
-use Rattle.usb_device.specs.Access.{byteAt, withBytes, withNumber}
+use Rattle.usb_store.specs.Layout.{PlaceLength, Places, Speed, LastTransfer, MaxPacketSize0}
+use Rattle.usb_store.specs.Layout as Layout
+use Rattle.usb_store.specs.Access.{byteAt, withBytes, withNumber}
 use Rattle.usb_model.specs.declared.Buffer.{Buffer}
 use Rattle.usb_model.specs.declared.Progress.{Progress}
 use Rattle.usb_model.specs.Programs.{_>>=_, _>>_, return, succeed}

@@ -1,14 +1,14 @@
 // The control message over document 01's stand-in for HcdSubmitControlMessage, and the descriptor read.
-use usb_device::store::ERROR;
-use usb_device::store::LAST_TRANSFER;
-use usb_device::store::MAX_PACKET_SIZE0;
-use usb_device::store::NUMBER;
-use usb_device::store::SPEED;
-use usb_device::store::byte_at;
-use usb_device::store::set_bytes;
-use usb_device::store::set_u32;
 use usb_model::Buffer;
 use usb_model::Progress;
+use usb_store::ERROR;
+use usb_store::LAST_TRANSFER;
+use usb_store::MAX_PACKET_SIZE0;
+use usb_store::NUMBER;
+use usb_store::SPEED;
+use usb_store::byte_at;
+use usb_store::set_bytes;
+use usb_store::set_u32;
 use usb_transfer::log::Step;
 use usb_transfer::log::log_request;
 use usb_transfer::outcome::HEADER_LEN;
@@ -33,7 +33,7 @@ ghost use Prim.Native.Nat.{_≤_, _<_, min};
 ghost use lib.ListN.{length, drop};
 ghost use Rattle.usb_types.specs.Actions.{requestAction};
 ghost use Rattle.usb_types.specs.Outcomes.{resultOf};
-ghost use Rattle.usb_device.specs.Layout.{Places, StoreLength};
+ghost use Rattle.usb_store.specs.Layout.{Places, StoreLength};
 ghost use Rattle.usb_model.specs.World.{logRequest};
 ghost use Rattle.usb_model.specs.Transfer as Model;
 ghost use Rattle.usb_transfer.specs.Outcomes.{Good};
@@ -107,7 +107,8 @@ fn take_outcome(
     h: Header,
 ) -> Transfer
     requires { ⌜ (length (now store) ≡ StoreLength) × Fits place buffer × (at .taken ≤ length (now outcomes)) × Good (drop (at .taken) (now outcomes)) h ⌝ }
-    ensures { λ r. ⌜ (now (store .exit) ≡ kept (now (store .entry)) place (h .error) (dataOf (now (outcomes .entry)) (at .taken) (min (h .size) asked)) buffer) × (r ≡ handed (resultOf (h .submit) (h .error)) (passed at (h .size)) (min (h .size) asked)) ⌝ }
+    ensures { λ r. ⌜ (now (store .exit) ≡ kept (now (store .entry)) place (h .error) (dataOf (now (outcomes .entry)) (at .taken) (min (h .size) asked)) buffer)
+        × (r ≡ handed (resultOf (h .submit) (h .error)) (passed at (h .size)) (min (h .size) asked)) ⌝ }
 {
     let taken = at.taken;
     let size = h.size;

@@ -11,8 +11,8 @@ use lib.Dec.{eqb, leb, ltb}
 use lib.ListN.{length}
 use Rattle.usb_types.specs.declared.types.Refusal.{Refusal}
 use Rattle.usb_types.specs.declared.types.Refusal.the-variants.{BadArgument, StoreDamaged, AlreadyAttached, RootSpeed}
-use Rattle.usb_device.specs.Layout.{Places, StoreLength, Used, Hub}
-use Rattle.usb_device.specs.Access.{byteAt}
+use Rattle.usb_store.specs.Layout.{Places, StoreLength, Used, Hub}
+use Rattle.usb_store.specs.Access.{byteAt}
 use Rattle.usb_device.specs.Device.{firstUnused}
 use Rattle.usb_device.proofs.Free.{first-least}
 use Rattle.usb_sound.specs.Sound.{Sound}

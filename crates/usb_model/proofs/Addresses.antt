@@ -9,10 +9,10 @@ use borrow.Author.Tests.{eq-eqb, ne-eqb}
 use lib.Dec.{eqb}
 use Rattle.usb_types.specs.Requests.{SetAddress, SetConfiguration, ToDevice, directionOf, deviceRequest}
 use Rattle.usb_types.specs.declared.request.UsbDeviceRequest.{UsbDeviceRequest}
-use Rattle.usb_device.specs.Layout.{Number, Status}
-use Rattle.usb_device.specs.Access.{byteAt, withByte}
-use Rattle.usb_device.specs.Device.{Default, Addressed}
-use Rattle.usb_device.proofs.Fields.{byte-other, byte-same}
+use Rattle.usb_store.specs.Layout.{Number, Status}
+use Rattle.usb_store.specs.Access.{byteAt, withByte}
+use Rattle.usb_store.specs.Values.{Default, Addressed}
+use Rattle.usb_store.proofs.Fields.{byte-other, byte-same}
 use Rattle.usb_model.specs.World.{put}
 use Rattle.usb_model.specs.Transfer.{Outcome, nowhere}
 use Rattle.usb_model.specs.Usbd.{usbSetAddress}

@@ -11,10 +11,10 @@ use lib.ListN.{length, take, length-take}
 use Rattle.usb_types.specs.Numbers.{littleEndian}
 use Rattle.usb_types.proofs.LittleEndian.{length-le}
 use Rattle.usb_types.specs.declared.request.UsbDeviceRequest.{UsbDeviceRequest}
-use Rattle.usb_device.specs.Layout.{Number, Status, ConfigurationIndex, Hub, DeviceDescriptor, MaxPacketSize0, ConfigurationDescriptor, Interfaces, HubDescriptor, HubStatus, PortStatus, Child, MaxChildren, Error, LastTransfer}
-use Rattle.usb_device.specs.Access.{bytesAt, offset, withBytes, withByte, withNumber}
-use Rattle.usb_device.proofs.Writes.{write-nil}
-use Rattle.usb_device.proofs.Fields.{bytes-most}
+use Rattle.usb_store.specs.Layout.{Number, Status, ConfigurationIndex, Hub, DeviceDescriptor, MaxPacketSize0, ConfigurationDescriptor, Interfaces, HubDescriptor, HubStatus, PortStatus, Child, MaxChildren, Error, LastTransfer}
+use Rattle.usb_store.specs.Access.{bytesAt, offset, withBytes, withByte, withNumber}
+use Rattle.usb_store.proofs.Writes.{write-nil}
+use Rattle.usb_store.proofs.Fields.{bytes-most}
 use Rattle.usb_model.specs.Programs.{change}
 use Rattle.usb_model.specs.World.{World, withStore, get, getBytes, getNumber, put, putBytes, putNumber, appended, counted, logAction, logRequest, microDelay, dwcUpdateHostFrameInterval}
 use Rattle.usb_model.specs.Features.{C-PORT-RESET, bit}

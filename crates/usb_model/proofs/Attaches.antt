@@ -13,16 +13,17 @@ use lib.ListN.{getD}
 use Rattle.usb_types.specs.Descriptors.{isHubClass}
 use Rattle.usb_types.specs.Requests.{GetDescriptor, ToHub}
 use Rattle.usb_types.specs.declared.types.Answer.{Answer}
-use Rattle.usb_device.specs.Layout.{Used, Number, Speed, Status, Hub, HubDescriptor, PortCount, Child, MaxChildren, InterfaceClass, EndpointCount, EndpointAddress, EndpointAttributes, ConfigurationValue}
-use Rattle.usb_device.specs.Access.{byteAt, withByte}
-use Rattle.usb_device.specs.Device.{Attached, Powered, Default, Addressed, blank, firstUnused}
-use Rattle.usb_device.proofs.Fields.{byte-other, byte-same}
+use Rattle.usb_store.specs.Layout.{Used, Number, Speed, Status, Hub, HubDescriptor, PortCount, Child, MaxChildren, InterfaceClass, EndpointCount, EndpointAddress, EndpointAttributes, ConfigurationValue}
+use Rattle.usb_store.specs.Access.{byteAt, withByte}
+use Rattle.usb_store.specs.Values.{Attached, Powered, Default, Addressed, WithoutDescriptor, WithDescriptor}
+use Rattle.usb_store.proofs.Fields.{byte-other, byte-same}
+use Rattle.usb_device.specs.Device.{blank, firstUnused}
 use Rattle.usb_device.proofs.Free.{first-most, first-before}
 use Rattle.usb_model.specs.Programs.{_>>=_, _>>_, succeed, ignore, when, each}
 use Rattle.usb_model.specs.World.{M, get, put, putBytes}
 use Rattle.usb_model.specs.Transfer.{into, nowhere, usbGetDescriptor}
 use Rattle.usb_model.specs.Usbd.{usbReadDeviceDescriptor, usbConfigure}
-use Rattle.usb_model.specs.Hub.{isOk, WithoutDescriptor, WithDescriptor, hubReadDescriptor, hubCheckConnection, hubAttach, scanPort, hubCheckForChange}
+use Rattle.usb_model.specs.Hub.{isOk, hubReadDescriptor, hubCheckConnection, hubAttach, scanPort, hubCheckForChange}
 use Rattle.usb_model.specs.Attach.{usbAttachDevice, attachBelow, usbAttachRootHub}
 use Rattle.usb_model.specs.Kept.{Bytes}
 use Rattle.usb_model.specs.History.{Event, count}

@@ -4,9 +4,10 @@ use Rattle.usb_types.specs.Outcomes.{listed, errorWord, submitResults, resultOf
 use Rattle.usb_types.specs.Requests.{directionOf, directionBit, deviceRequest}
 use Rattle.usb_types.specs.Actions.{packetSize}
 use Rattle.usb_types.specs.Descriptors.{kindOf, isHubClass}
-use Rattle.usb_device.specs.Access.{byteAt, bytesAt, withBytes}
+use Rattle.usb_store.specs.Access.{byteAt, bytesAt, withBytes}
 use Rattle.usb_device.specs.Device.{newDevice, firstUnusedFrom}
-use Rattle.usb_sound.specs.Test.{oneOf, zeros, every, fieldsSound, hubSound, placeSound, usedSound, andThen, parentSound, markChild, markPorts, markHubs, allSeen, treeSound, storeSound, sound}
+use Rattle.usb_place.specs.Test.{oneOf, zeros, every, fieldsSound, hubSound, placeSound, usedSound}
+use Rattle.usb_sound.specs.Test.{andThen, parentSound, markChild, markPorts, markHubs, allSeen, treeSound, storeSound, sound}
 use Rattle.usb_model.specs.Programs.{_>>=_, _>>_, return, skip, throw, stop, look, change, succeed, attempt, ignore, when, each}
 use Rattle.usb_model.specs.World.{get, getBytes, getNumber, putBytes, put, putNumber, logAction, logRequest, microDelay, dwcUpdateHostFrameInterval}
 use Rattle.usb_model.specs.Features.{bit}
@@ -16,7 +17,7 @@ use Rattle.usb_model.specs.Usbd.{readDeviceDescriptor, usbReadDeviceDesc
 use Rattle.usb_model.specs.Hub.{hubReadDescriptor, hubGetStatus, hubChangePortFeature, hubPowerOn, hubPortGetStatus, portStatus, awaitReset, hubPortReset2, awaitEnabled, resetTries, hubPortReset, portOfChild, hubChildReset, speedOf, hubPortConnectionChanged, hubCheckConnection, hubCheckConnectionDevice, hubAttach, scanPort, hubCheckForChange}
 use Rattle.usb_model.specs.Attach.{usbAttachDevice, attachBelow, usbAttachRootHub}
 use Rattle.usb_model.specs.Entry.{rootVerdict, hubVerdict, call, rootAttach, scan, portCheck, childReset, childCheck, retriedReset, connectionChange, configurationWalk}
-use Rattle.usb_model.specs.Bench.{Line, rows, shown, walks, vacantHub, rootPlace, devicePlace, attachedStore, walkLines, attach, firstRequest, hubLines, reset, resetLines, benchLines, table, expected, allRows, table, expected}
+use Rattle.usb_model.specs.Bench.{rows, shown, walks, vacantHub, rootPlace, devicePlace, attachedStore, walkLines, attach, firstRequest, hubLines, reset, resetLines, benchLines, table, expected, allRows}
 
 lines : allRows (λ line. line .computed) ≡ allRows (λ line. line .due)
 unfolding

@@ -10,10 +10,11 @@ use borrow.Author.Tests.{eqb-false}
 use lib.Dec.{eqb}
 use lib.ListN.{getD}
 use Rattle.usb_types.specs.declared.types.ErrorCode.the-variants.{BusFull}
-use Rattle.usb_device.specs.Layout.{Used, Number, Status, Hub, Child}
-use Rattle.usb_device.specs.Access.{byteAt, withBytes, withByte}
-use Rattle.usb_device.specs.Device.{Attached, newDevice, firstUnused}
-use Rattle.usb_device.proofs.Fields.{byte-other, byte-same}
+use Rattle.usb_store.specs.Layout.{Used, Number, Status, Hub, Child}
+use Rattle.usb_store.specs.Access.{byteAt, withBytes, withByte}
+use Rattle.usb_store.specs.Values.{Attached}
+use Rattle.usb_store.proofs.Fields.{byte-other, byte-same}
+use Rattle.usb_device.specs.Device.{newDevice, firstUnused}
 use Rattle.usb_device.proofs.Free.{first-most, first-unused, new-byte}
 use Rattle.usb_model.specs.Programs.{on, _>>=_, _>>_, return, skip, throw, look, change, when}
 use Rattle.usb_model.specs.World.{M, put, putBytes}

@@ -9,12 +9,12 @@ use native.Mathlib.Omega.{arith}
 use borrow.Author.Tests.{eqb-false, not-true, not-false}
 use lib.Dec.{eqb}
 use Rattle.usb_types.specs.declared.types.ErrorCode.the-variants.{BusFull}
-use Rattle.usb_device.specs.Layout.{Number, Speed, Status, PortNumber, Parent, Hub, Used, Child}
-use Rattle.usb_device.specs.Access.{byteAt, withByte}
+use Rattle.usb_store.specs.Layout.{Number, Speed, Status, PortNumber, Parent, Hub, Used, Child}
+use Rattle.usb_store.specs.Access.{byteAt, withByte}
 use Rattle.usb_device.specs.Device.{newDevice, firstUnused}
 use Rattle.usb_device.proofs.Free.{first-most, first-unused}
 use Rattle.usb_sound.specs.Sound.{Sound}
-use Rattle.usb_model.specs.Programs.{Ran, done, fail, halt, on, _>>=_, _>>_, return, skip, throw, look, change, when}
+use Rattle.usb_model.specs.Programs.{Ran, done, fail, halt, on, _>>=_, _>>_, return, skip, throw, look, change, when, endOf}
 use Rattle.usb_model.specs.World.{World, M, withStore, get, put, putBytes}
 use Rattle.usb_model.specs.Features.{PORT-CONNECTION, PORT-ENABLE, bit}
 use Rattle.usb_model.specs.Usbd.{usbAllocateDevice}
@@ -23,7 +23,7 @@ use Rattle.usb_model.specs.Attach.{usbAttachDevice, attachBelow, usbAtta
 use Rattle.usb_model.specs.Entry.{Lent, Verdict, accepted, refused, rootVerdict, start, answered, call, rootAttach}
 use Rattle.usb_model.specs.Kept.{LentBytes}
 use Rattle.usb_model.specs.Count.{mostRequests, storeLeft}
-use Rattle.usb_model.proofs.Costs.{after, Ended, last, Costs, bind, next, next′, looks, more, skips, throws, succeeds, attempts, ignores, whens, whens-true, unless, eachs}
+use Rattle.usb_model.proofs.Costs.{after, Ended, Costs, bind, next, next′, looks, more, skips, throws, succeeds, attempts, ignores, whens, whens-true, unless, eachs}
 use Rattle.usb_model.proofs.Budget.{budget, Known, nothing, place, port, Knows, forget, frame, Keeps, Sends, hub-writes, new-writes}
 use Rattle.usb_model.proofs.Accepted.{root-accepted}
 use Rattle.usb_model.proofs.Entries.{start-good}
@@ -37,7 +37,7 @@ unfolding usbAllocateDevice _>>=_ _>>_ look when throw skip putBytes change retu
 allocates {k} {B} {f} n h = record { run = λ w x. go w x (firstUnused (w .store)) refl (eqb (firstUnused (w .store)) 32) refl }
   where
     go : (w : World) → Knows k (w .store) → (p : ℕ) → p ≡ firstUnused (w .store) → (b : Bool) → eqb p 32 ≡ b
-        → Ended (after (frame k nothing (λ s x. forget x))) n w (last (on (on (cond b (throw {A = Unit {0}} BusFull) skip w) (λ _. putBytes p 0 (newDevice p) >> return p)) f))
+        → Ended (after (frame k nothing (λ s x. forget x))) n w (endOf (on (on (cond b (throw {A = Unit {0}} BusFull) skip w) (λ _. putBytes p 0 (newDevice p) >> return p)) f))
     go w x p e true t = record { holds = forget x; paid = omega arith }
     go w x p e false t =
         let inside : p < 32 = omega (arith, eqb-false p 32 t, e, first-most (w .store)) in
@@ -142,7 +142,7 @@ root-hub speed = allocates 0 λ p h.
 
 -- ---- the entry point
 
-within : (r : Ran World (Unit {0})) → last r .at .requests ≤ budget (last r .store) → answered r .requests ≤ budget (answered r .new)
+within : (r : Ran World (Unit {0})) → endOf r .at .requests ≤ budget (endOf r .store) → answered r .requests ≤ budget (answered r .new)
 within (done a w) h = h
 within (fail e w) h = h
 within (halt x w) h = h

@@ -9,10 +9,10 @@ use native.Mathlib.Decide.{ℕ-discrete, decLt}
 use borrow.Author.Tests.{ne-eqb}
 use lib.Dec.{eqb}
 use lib.ListN.{length, getD}
-use Rattle.usb_device.specs.Layout.{StoreLength, Used, Hub, Child, MaxChildren}
-use Rattle.usb_device.specs.Access.{byteAt, withBytes, withByte}
+use Rattle.usb_store.specs.Layout.{StoreLength, Used, Hub, Child, MaxChildren}
+use Rattle.usb_store.specs.Access.{byteAt, withBytes, withByte}
+use Rattle.usb_store.proofs.Fields.{Apart, with-length, byte-other, byte-same}
 use Rattle.usb_device.specs.Device.{newDevice}
-use Rattle.usb_device.proofs.Fields.{Apart, with-length, byte-other, byte-same}
 use Rattle.usb_device.proofs.Free.{free-most, free-field, free-taken, new-byte}
 use Rattle.usb_device.proofs.NewDevice.{length-new}
 use Rattle.usb_model.specs.World.{World, M}

@@ -1,10 +1,11 @@
 -- Lists of bytes, and the requests in a log. Assumes nothing.
 use mathlib.Core.List.{List, [], _∷_, _++_}
-use Prim.Native.Nat.{ℕ, zero, suc, _+_, _-_, _/_, _<_}
+use Prim.Native.Nat.{ℕ, zero, suc, _-_, _<_}
 use native.Mathlib.Omega.{arith}
 use lib.ListN.{getD, take, drop, replicate}
 use Rattle.usb_types.specs.Numbers.{littleEndian}
-use Rattle.usb_device.specs.Access.{write, byteAt, bytesAt, offset, withBytes}
+use Rattle.usb_types.proofs.LittleEndian.{le-below}
+use Rattle.usb_store.specs.Access.{write, byteAt, bytesAt, offset, withBytes}
 use Rattle.usb_device.specs.Device.{newDevice, repeat, blank}
 use Rattle.usb_model.specs.Kept.{Bytes}
 
@@ -55,8 +56,7 @@ bytes-drop (suc n) [] b = b
 bytes-drop (suc n) (x ∷ l) b = bytes-drop n l (bytes-tail b)
 
 pub bytes-le : (n v : ℕ) → Bytes (littleEndian n v)
-bytes-le zero v = bytes-nil
-bytes-le (suc n) v = bytes-cons (omega arith) (bytes-le n (v / 256))
+bytes-le n v = record { below = le-below n v }
 
 pub bytes-with : (s : List ℕ) (p f : ℕ) (vs : List ℕ) → Bytes s → Bytes vs → Bytes (withBytes s p f vs)
 unfolding withBytes

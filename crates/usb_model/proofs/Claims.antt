@@ -1,14 +1,14 @@
--- Connection change, port check, hub attach and attach keep the invariant between store and history; so does a scan. Assumes nothing.
+-- Connection change and port check keep the invariant between store and history. Assumes nothing.
 use mathlib.Core.Path.{_≡_, sym, _∙_, subst}
 use mathlib.Core.Bool.{Bool, not, _&&_, _||_}
 use mathlib.Core.List.{List}
-use Prim.Native.Nat.{ℕ, _+_, _-_, _<_}
+use Prim.Native.Nat.{ℕ, _+_, _<_}
 use native.Mathlib.Omega.{arith}
 use borrow.Author.Tests.{eqb-true, not-false}
 use lib.Dec.{eqb}
-use Rattle.usb_device.specs.Layout.{Used, Number, Speed, Status, PortNumber, Parent, Hub, Child}
-use Rattle.usb_device.specs.Access.{byteAt}
-use Rattle.usb_device.specs.Device.{Attached}
+use Rattle.usb_store.specs.Layout.{Used, Number, Speed, Status, PortNumber, Parent, Hub, Child}
+use Rattle.usb_store.specs.Access.{byteAt}
+use Rattle.usb_store.specs.Values.{Attached}
 use Rattle.usb_model.specs.Programs.{when}
 use Rattle.usb_model.specs.World.{M}
 use Rattle.usb_model.specs.Features.{PORT-CONNECTION, PORT-ENABLE, PORT-SUSPEND, PORT-OVER-CURRENT, C-PORT-CONNECTION, C-PORT-ENABLE, C-PORT-RESET, bit}

@@ -11,10 +11,11 @@ use Rattle.usb_types.specs.Numbers.{fromLittleEndian}
 use Rattle.usb_types.specs.Requests.{GetDescriptor, SetConfiguration, ToDevice, deviceRequest}
 use Rattle.usb_types.specs.declared.request.UsbDeviceRequest.{UsbDeviceRequest}
 use Rattle.usb_types.proofs.LittleEndian.{from-below}
-use Rattle.usb_device.specs.Layout.{Used, Number, Status, ConfigurationIndex, ConfigurationDescriptor, ConfigurationValue, TotalLength, Interfaces}
-use Rattle.usb_device.specs.Access.{byteAt, bytesAt, withByte}
-use Rattle.usb_device.specs.Device.{Addressed, Configured, firstUnused}
-use Rattle.usb_device.proofs.Fields.{Apart, bytes-length, bytes-most}
+use Rattle.usb_store.specs.Layout.{Used, Number, Status, ConfigurationIndex, ConfigurationDescriptor, ConfigurationValue, TotalLength, Interfaces}
+use Rattle.usb_store.specs.Access.{byteAt, bytesAt, withByte}
+use Rattle.usb_store.specs.Values.{Addressed, Configured}
+use Rattle.usb_store.proofs.Fields.{Apart, bytes-length, bytes-most}
+use Rattle.usb_device.specs.Device.{firstUnused}
 use Rattle.usb_model.specs.World.{M, getBytes, getNumber, put, putBytes}
 use Rattle.usb_model.specs.Transfer.{Outcome, into, nowhere, read, usbGetDescriptor}
 use Rattle.usb_model.specs.Walk.{RecordLength, walk}

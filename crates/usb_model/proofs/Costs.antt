@@ -8,7 +8,7 @@ use Rattle.usb_types.specs.declared.types.ErrorCode.{ErrorCode}
 use Rattle.usb_types.specs.declared.types.Halt.{Halt}
 use Rattle.usb_types.specs.declared.types.Answer.{Answer}
 use Rattle.usb_types.specs.declared.types.Answer.the-variants.{Ok, Error, Stop}
-use Rattle.usb_model.specs.Programs.{if_then_else_, Ran, done, fail, halt, on, Program, _>>=_, _>>_, return, skip, throw, stop, look, change, ran, succeed, caught, attempt, ignore, when, each}
+use Rattle.usb_model.specs.Programs.{if_then_else_, Ran, done, fail, halt, on, Program, _>>=_, _>>_, return, skip, throw, stop, look, change, ran, succeed, caught, attempt, ignore, when, each, endOf}
 
 pub record Frame (S : Type 0) : Type 1 where
   pub pre : S → Type 0
@@ -31,22 +31,16 @@ pub record Ended {S : Type 0} (F : Frame S) (k : ℕ) (s t : S) : Type 0 where
   pub holds : F .post t
   pub paid : F .spent t + F .owned s ≤ F .spent s + k + F .owned t
 
--- the state in which a program ends
-abbrev pub last : {S A : Type 0} → Ran S A → S
-last (done a s) = s
-last (fail e s) = s
-last (halt h s) = s
-
 pub record Costs {S : Type 0} (F : Frame S) (k : ℕ) {A : Type 0} (m : Program S A) : Type 0 where
-  pub run : (s : S) → F .pre s → Ended (after F) k s (last (m s))
+  pub run : (s : S) → F .pre s → Ended (after F) k s (endOf (m s))
 
 module _ {S : Type 0} (F : Frame S) where
   stays : {k : ℕ} (s : S) → F .pre s → Ended (after F) k s s
   stays s h = record { holds = F .keep s h; paid = omega arith }
 
   -- one program after another, with what holds between them
-  joined : {A B : Type 0} {P : S → Type 0} {k l : ℕ} {s : S} (r : Ran S A) (f : A → Program S B) → Ended (always P (F .spent) (F .owned)) k s (last r)
-      → ((t : S) → P t → F .post t) → ((a : A) (t : S) → P t → Ended (after F) l t (last (f a t))) → Ended (after F) (k + l) s (last (on r f))
+  joined : {A B : Type 0} {P : S → Type 0} {k l : ℕ} {s : S} (r : Ran S A) (f : A → Program S B) → Ended (always P (F .spent) (F .owned)) k s (endOf r)
+      → ((t : S) → P t → F .post t) → ((a : A) (t : S) → P t → Ended (after F) l t (endOf (f a t))) → Ended (after F) (k + l) s (endOf (on r f))
   joined (done a t) f e keep g = let d = g a t (e .holds) in record { holds = d .holds; paid = omega (arith, e .paid, d .paid) }
   joined (fail x t) f e keep g = record { holds = keep t (e .holds); paid = omega (arith, e .paid) }
   joined (halt x t) f e keep g = record { holds = keep t (e .holds); paid = omega (arith, e .paid) }
@@ -102,7 +96,7 @@ module _ {S : Type 0} {F : Frame S} where
   unfolding succeed
   succeeds a = record { run = go a }
     where
-      go : (a : Answer) (s : S) → F .pre s → Ended (after F) 0 s (last (ran a s))
+      go : (a : Answer) (s : S) → F .pre s → Ended (after F) 0 s (endOf (ran a s))
       go Ok s h = stays F s h
       go (Error e) s h = stays F s h
       go (Stop x) s h = stays F s h
@@ -111,7 +105,7 @@ module _ {S : Type 0} {F : Frame S} where
   unfolding attempt
   attempts {k} {m} h = record { run = λ s p. go s (m s) (h .run s p) }
     where
-      go : (s : S) (r : Ran S (Unit {0})) → Ended (after F) k s (last r) → Ended (after F) k s (last (caught r))
+      go : (s : S) (r : Ran S (Unit {0})) → Ended (after F) k s (endOf r) → Ended (after F) k s (endOf (caught r))
       go s (done a t) e = e
       go s (fail x t) e = e
       go s (halt x t) e = e

@@ -5,7 +5,7 @@ use Prim.Native.Nat.{ℕ, zero, suc, _+_, _-_, _≤_, _<_}
 use native.Mathlib.Omega.{arith}
 use borrow.Author.Tests.{not-true}
 use lib.Dec.{eqb}
-use Rattle.usb_device.specs.Layout.{Places, Number, Speed, Status, PortNumber, Parent, Hub, Child}
+use Rattle.usb_store.specs.Layout.{Places, Number, Speed, Status, PortNumber, Parent, Hub, Child}
 use Rattle.usb_device.specs.Device.{freePlaces}
 use Rattle.usb_device.proofs.Free.{first-most}
 use Rattle.usb_model.specs.World.{World, M}

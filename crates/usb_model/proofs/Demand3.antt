@@ -3,16 +3,17 @@ use mathlib.Core.Path.{_≡_, refl, sym, ap, _∙_, subst}
 use mathlib.Core.Bool.{false}
 use mathlib.Core.Logic.{_≢_}
 use mathlib.Core.List.{List, []}
-use Prim.Native.Nat.{ℕ, zero, suc, _+_, _*_, _≤_, _<_}
+use Prim.Native.Nat.{ℕ, _+_, _*_, _≤_, _<_}
 use native.Mathlib.Omega.{arith}
 use borrow.Author.Tests.{ltb-false}
-use lib.ListN.{getD, replicate}
-use Rattle.usb_device.specs.Layout.{StoreLength, Status, Hub}
-use Rattle.usb_device.specs.Access.{byteAt, offset}
+use lib.ListN.{replicate}
+use Rattle.usb_store.specs.Layout.{StoreLength, Status, Hub}
+use Rattle.usb_store.specs.Access.{byteAt, offset}
 use Rattle.usb_device.specs.Device.{firstUnused}
 use Rattle.usb_sound.specs.Sound.{Sound}
 use Rattle.usb_sound.proofs.Decides.{empty-sound}
-use Rattle.usb_model.specs.Programs.{Ran}
+use Rattle.usb_place.proofs.Tests.{replicate-zero}
+use Rattle.usb_model.specs.Programs.{Ran, endOf}
 use Rattle.usb_model.specs.World.{World}
 use Rattle.usb_model.specs.Attach.{attachNew}
 use Rattle.usb_model.specs.Entry.{Lent, accepted, noPort, start, answered, call, rootAttach, scan, portCheck}
@@ -24,7 +25,7 @@ use Rattle.usb_model.proofs.Cycle.{attach-walks, check-connection, root
 use Rattle.usb_model.proofs.Accepted.{root-accepted, hub-accepted}
 use Rattle.usb_model.proofs.Entries.{start-good}
 use Rattle.usb_model.proofs.Bound.{root-attach-requests}
-use Rattle.usb_model.proofs.Keeps.{Any, Left, left, left-holds}
+use Rattle.usb_model.proofs.Keeps.{Any, Left, left-holds}
 use Rattle.usb_model.proofs.SoundKept.{Stays, hub-place, check-connection-stays, check-for-change-stays, root-hub-stays}
 use Rattle.usb_model.proofs.Reading.{Reads}
 use Rattle.usb_model.proofs.Triples.{State, store, Leads, fine, bad}
@@ -41,14 +42,9 @@ record Kept (s : List ℕ) (h : List Event) : Type 0 where
 
 -- ---- the empty store
 
-zero-byte : (n i : ℕ) → _≡_ {A = ℕ} (getD (replicate n 0) i 0) 0
-zero-byte zero i = refl
-zero-byte (suc n) zero = refl
-zero-byte (suc n) (suc i) = zero-byte n i
-
 empty-byte : (p f : ℕ) → byteAt (replicate StoreLength 0) p f ≡ 0
 unfolding byteAt
-empty-byte p f = zero-byte StoreLength (offset p f)
+empty-byte p f = replicate-zero StoreLength (offset p f)
 
 empty-kept : Kept (replicate StoreLength 0) []
 unfolding count
@@ -83,7 +79,7 @@ leads-ended : {h : List Event} {H : ℕ → Type 0} {r : Ran World (Unit {0})} {
 leads-ended (fine s f) finished = record { state = s; is = refl; is-fine = f }
 leads-ended (bad s f) failed = record { state = s; is = refl; is-fine = f }
 
-left-ended : {r : Ran World (Unit {0})} {w : World} → Ended r w → left r ≡ w
+left-ended : {r : Ran World (Unit {0})} {w : World} → Ended r w → endOf r ≡ w
 left-ended finished = refl
 left-ended failed = refl
 

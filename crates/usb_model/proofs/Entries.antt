@@ -3,7 +3,7 @@ use mathlib.Core.Path.{_≡_, refl, sym, _∙_}
 use mathlib.Core.Bool.{Bool, true, false, cond, not, _||_}
 use mathlib.Core.Logic.{_≢_}
 use mathlib.Core.List.{List, []}
-use Prim.Native.Nat.{ℕ, _+_, _-_, _≤_, _<_}
+use Prim.Native.Nat.{ℕ, _+_, _≤_, _<_}
 use native.Mathlib.Omega.{arith}
 use native.Mathlib.Decide.{decLt}
 use borrow.Author.Tests.{ltb-false}
@@ -20,9 +20,9 @@ use Rattle.usb_types.specs.declared.types.Answer.{Answer}
 use Rattle.usb_types.specs.declared.types.Answer.the-variants.{Ok, Error, Stop}
 use Rattle.usb_types.specs.declared.types.Refusal.{Refusal}
 use Rattle.usb_types.specs.declared.types.Refusal.the-variants.{BadArgument, StoreDamaged, AlreadyAttached, RootSpeed}
-use Rattle.usb_device.specs.Layout.{StoreLength, Child, MaxChildren}
-use Rattle.usb_device.specs.Access.{byteAt}
-use Rattle.usb_device.proofs.Writes.{write-nil}
+use Rattle.usb_store.specs.Layout.{StoreLength, Child, MaxChildren}
+use Rattle.usb_store.specs.Access.{byteAt}
+use Rattle.usb_store.proofs.Writes.{write-nil}
 use Rattle.usb_sound.specs.Sound.{Sound}
 use Rattle.usb_sound.proofs.Hubs.{child-below}
 use Rattle.usb_model.specs.Programs.{Ran}

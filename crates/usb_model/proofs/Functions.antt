@@ -2,12 +2,12 @@
 use mathlib.Core.Path.{_≡_, refl}
 use mathlib.Core.Bool.{Bool, true, false, cond, not, _&&_, _||_, and-eq-true-iff}
 use mathlib.Core.Logic.{inl, inr}
-use Prim.Native.Nat.{ℕ, zero, suc, _+_, _-_, _*_, _≤_, _<_}
+use Prim.Native.Nat.{ℕ, zero, suc, _+_, _*_, _≤_, _<_}
 use native.Mathlib.Omega.{arith}
 use borrow.Author.Tests.{ltb-true, not-false}
 use lib.Dec.{eqb, ltb}
 use Rattle.usb_types.specs.Requests.{ToDevice, ToHub, ToPort, GetStatus, SetFeature, ClearFeature, GetDescriptor, SetAddress, SetConfiguration, GetConfiguration, GetInterface, SynchFrame, directionOf, deviceRequest}
-use Rattle.usb_device.specs.Layout.{Number, Speed, Status, ConfigurationIndex, PortNumber, Parent, Hub, DeviceDescriptor, MaxPacketSize0, ConfigurationDescriptor, Interfaces, HubDescriptor, HubStatus, PortStatus, Child}
+use Rattle.usb_store.specs.Layout.{Number, Speed, Status, ConfigurationIndex, PortNumber, Parent, Hub, DeviceDescriptor, MaxPacketSize0, ConfigurationDescriptor, Interfaces, HubDescriptor, HubStatus, PortStatus, Child}
 use Rattle.usb_model.specs.World.{World}
 use Rattle.usb_model.specs.Features.{PORT-ENABLE, PORT-LOW-SPEED, PORT-HIGH-SPEED, C-PORT-RESET, bit}
 use Rattle.usb_model.specs.Transfer.{Buffer, into, nowhere, usbGetDescriptor}

@@ -6,9 +6,9 @@ use mathlib.Core.List.{List}
 use Prim.Native.Nat.{ℕ, zero, suc, _+_, _<_}
 use native.Mathlib.Omega.{arith}
 use native.Mathlib.Decide.{ℕ-discrete}
-use Rattle.usb_device.specs.Layout.{Used, Number, Status, Hub, ConfigurationValue, Child}
-use Rattle.usb_device.specs.Access.{byteAt}
-use Rattle.usb_device.specs.Device.{Configured}
+use Rattle.usb_store.specs.Layout.{Used, Number, Status, Hub, ConfigurationValue, Child}
+use Rattle.usb_store.specs.Access.{byteAt}
+use Rattle.usb_store.specs.Values.{Configured}
 use Rattle.usb_model.specs.History.{Event, setsAddress, configures, count}
 use Rattle.usb_model.specs.Demand3.{Once, ago, NoResetSince, EndedWell, Device, ShownConfigured, Stands, Addressed, ConfiguredWith, Anything, Story, root, child}
 use Rattle.usb_model.proofs.Triples.{State, store}

@@ -8,7 +8,7 @@ use Rattle.usb_types.specs.declared.types.ErrorCode.{ErrorCode}
 use Rattle.usb_types.specs.declared.types.Halt.{Halt}
 use Rattle.usb_types.specs.declared.types.Answer.{Answer}
 use Rattle.usb_types.specs.declared.types.Answer.the-variants.{Ok, Error, Stop}
-use Rattle.usb_model.specs.Programs.{if_then_else_, Ran, done, fail, halt, on, Program, _>>=_, _>>_, return, skip, throw, stop, look, change, ran, succeed, caught, attempt, ignore, when, each}
+use Rattle.usb_model.specs.Programs.{if_then_else_, Ran, done, fail, halt, on, Program, _>>=_, _>>_, return, skip, throw, stop, look, change, ran, succeed, caught, attempt, ignore, when, each, endOf}
 
 abbrev pub Any : {A : Type 0} → A → Type 0
 Any a = Unit {0}
@@ -24,13 +24,7 @@ pub record Safe {S : Type 0} (P P′ : S → Type 0) {A : Type 0} (m : Program S
 abbrev pub Keeps : {S : Type 0} → (S → Type 0) → {A : Type 0} → Program S A → (A → Type 0) → Type 0
 Keeps P m Q = Safe P P m Q
 
--- the state that a run leaves
-abbrev pub left : {S A : Type 0} → Ran S A → S
-left (done a s) = s
-left (fail e s) = s
-left (halt h s) = s
-
-pub left-holds : {S A : Type 0} {P : S → Type 0} {Q : A → Type 0} {r : Ran S A} → Left P Q r → P (left r)
+pub left-holds : {S A : Type 0} {P : S → Type 0} {Q : A → Type 0} {r : Ran S A} → Left P Q r → P (endOf r)
 left-holds (is-done p q) = p
 left-holds (is-failed p) = p
 left-holds (is-halted p) = p

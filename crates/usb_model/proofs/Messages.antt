@@ -1,9 +1,9 @@
 -- A control message: the one event that it adds, the bytes that it keeps, and what it stores. Assumes nothing.
 use mathlib.Core.Path.{_≡_, refl, sym, ap, _∙_, subst}
 use mathlib.Core.Bool.{true, false}
-use mathlib.Core.Logic.{_⊎_, inl, inr, ⊎-elim}
+use mathlib.Core.Logic.{inl, inr, ⊎-elim}
 use mathlib.Core.List.{List, _∷_}
-use Prim.Native.Nat.{ℕ, _+_, _-_, _*_, _≤_, _<_}
+use Prim.Native.Nat.{ℕ, _+_, _*_, _≤_, _<_}
 use native.Mathlib.Omega.{arith}
 use native.Mathlib.Decide.{decLt}
 use lib.ListN.{length, take, length-take}
@@ -14,9 +14,9 @@ use Rattle.usb_types.specs.Actions.{packetSize}
 use Rattle.usb_types.specs.declared.request.UsbDeviceRequest.{UsbDeviceRequest}
 use Rattle.usb_types.specs.declared.pipe.UsbPipeAddress.{UsbPipeAddress}
 use Rattle.usb_types.proofs.LittleEndian.{length-le}
-use Rattle.usb_device.specs.Layout.{Number, Speed, Error, LastTransfer, MaxPacketSize0}
-use Rattle.usb_device.specs.Access.{offset, byteAt, bytesAt, withBytes, withNumber}
-use Rattle.usb_device.proofs.Fields.{Apart, byte-other, bytes-other, bytes-same}
+use Rattle.usb_store.specs.Layout.{Number, Speed, Error, LastTransfer, MaxPacketSize0}
+use Rattle.usb_store.specs.Access.{offset, byteAt, bytesAt, withBytes, withNumber}
+use Rattle.usb_store.proofs.Fields.{Apart, byte-other, bytes-other, bytes-same}
 use Rattle.usb_model.specs.World.{putBytes, putNumber}
 use Rattle.usb_model.specs.Transfer.{Outcome, Buffer, usbControlMessage, control, read}
 use Rattle.usb_model.specs.Kept.{Bytes}

@@ -6,10 +6,11 @@ use mathlib.Core.List.{List, _∷_}
 use Prim.Native.Nat.{ℕ, suc, _+_, _≤_, _<_}
 use native.Mathlib.Omega.{arith}
 use lib.ListN.{length}
-use Rattle.usb_device.specs.Layout.{Used, Number, Status, Hub, ConfigurationValue, Child}
-use Rattle.usb_device.specs.Access.{byteAt, withBytes}
-use Rattle.usb_device.specs.Device.{Configured, firstUnused}
-use Rattle.usb_device.proofs.Fields.{byte-other}
+use Rattle.usb_store.specs.Layout.{Used, Number, Status, Hub, ConfigurationValue, Child}
+use Rattle.usb_store.specs.Access.{byteAt, withBytes}
+use Rattle.usb_store.specs.Values.{Configured}
+use Rattle.usb_store.proofs.Fields.{byte-other}
+use Rattle.usb_device.specs.Device.{firstUnused}
 use Rattle.usb_model.specs.History.{Event, setsAddress, configures, count}
 use Rattle.usb_model.specs.Demand3.{Stands}
 use Rattle.usb_model.proofs.Stores.{Follows, first-kept}

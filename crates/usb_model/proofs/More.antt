@@ -19,25 +19,20 @@ use Rattle.usb_types.specs.declared.types.Answer.{Answer}
 use Rattle.usb_types.specs.declared.types.Answer.the-variants.{Ok, Error, Stop}
 use Rattle.usb_types.specs.declared.request.UsbDeviceRequest.{UsbDeviceRequest}
 use Rattle.usb_types.specs.declared.pipe.UsbPipeAddress.{UsbPipeAddress}
-use Rattle.usb_device.specs.Access.{write}
-use Rattle.usb_device.proofs.Writes.{length-write}
-use Rattle.usb_model.specs.Programs.{if_then_else_, Ran, done, fail, halt, on, _>>=_, _>>_, return, skip, throw, stop, look, change, succeed, caught, attempt, ignore, when, each}
+use Rattle.usb_store.specs.Access.{write}
+use Rattle.usb_store.proofs.Writes.{length-write}
+use Rattle.usb_model.specs.Programs.{if_then_else_, Ran, done, fail, halt, on, _>>=_, _>>_, return, skip, throw, stop, look, change, succeed, caught, attempt, ignore, when, each, endOf}
 use Rattle.usb_model.specs.World.{World, M, get, getBytes, getNumber, put, putBytes, putNumber, appended, counted, logAction, logRequest, microDelay, dwcUpdateHostFrameInterval}
 use Rattle.usb_model.specs.Transfer.{Outcome, taken, takeOutcome}
 use Rattle.usb_model.specs.Kept.{requestsIn, Onward}
 use Rattle.usb_model.proofs.Onward.{onward-same, onward-join}
+use Rattle.usb_model.proofs.Primitives.{log-onward}
 
 -- ---- the log alone
 
 -- a world without its store and its outcomes
 abbrev logOf : World → World
 logOf w = record { store = []; log = w .log; outcomes = []; at = record { logged = w .at .logged; taken = 0; requests = w .at .requests } }
-
--- the world in which a program ends
-abbrev pub end : {A : Type 0} → Ran World A → World
-end (done a w) = w
-end (fail e w) = w
-end (halt h w) = w
 
 pub record Grown (w v : World) : Type 0 where
   pub onward : Onward w v
@@ -61,19 +56,7 @@ full w = ltb (length (w .log) - w .at .logged) 16
 logged : (w : World) (action : List ℕ) (requests : ℕ) → length action ≡ 16 → requests ≡ w .at .requests + requestsIn 1 action → full w ≡ false
     → Grows w (record { store = w .store; log = write (w .log) (w .at .logged) action; outcomes = w .outcomes; at = record { logged = w .at .logged + 16; taken = w .at .taken; requests = requests } })
 logged w action requests long e room = record {
-  onward = record {
-    store = refl;
-    free = omega arith;
-    first = omega arith;
-    outcomes = refl;
-    taken = omega arith;
-    actions = 1;
-    news = action;
-    news-length = long;
-    log = refl;
-    logged = refl;
-    requests = e;
-  };
+  onward = log-onward action requests long e;
   fits = λ h. omega (arith, ltb-false (length (w .log) - w .at .logged) 16 room, length-write (w .log) (w .at .logged) action);
 }
 
@@ -91,19 +74,19 @@ module _ (more : List ℕ) where
   -- how a program ends, and how it ends with more outcomes
   pub data Repeats {A : Type 0} : Ran World A → Ran World A → Type 0 where
     same : {r : Ran World A} → Repeats r (extendedRan r)
-    spent : {v : World} {r : Ran World A} → Grows v (end r) → Repeats (halt OutcomesSpent v) r
+    spent : {v : World} {r : Ran World A} → Grows v (endOf r) → Repeats (halt OutcomesSpent v) r
 
   pub record Extends {A : Type 0} (m : M A) : Type 0 where
-    pub grows : (w : World) → Grows w (end (m w))
+    pub grows : (w : World) → Grows w (endOf (m w))
     pub repeats : (w : World) → Repeats (m w) (m (extended w))
 
-grows-caught : {w : World} (r : Ran World (Unit {0})) → Grown w (logOf (end r)) → Grown w (logOf (end (caught r)))
+grows-caught : {w : World} (r : Ran World (Unit {0})) → Grown w (logOf (endOf r)) → Grown w (logOf (endOf (caught r)))
 grows-caught (done a v) g = g
 grows-caught (fail e v) g = g
 grows-caught (halt h v) g = g
 
 module _ {more : List ℕ} where
-  grows-on : {A B : Type 0} {w : World} {k : A → M B} (r : Ran World A) → Grown w (logOf (end r)) → ((a : A) → Extends more (k a)) → Grown w (logOf (end (on r k)))
+  grows-on : {A B : Type 0} {w : World} {k : A → M B} (r : Ran World A) → Grown w (logOf (endOf r)) → ((a : A) → Extends more (k a)) → Grown w (logOf (endOf (on r k)))
   grows-on (done a v) g f = join g (f a .grows v)
   grows-on (fail e v) g f = g
   grows-on (halt h v) g f = g
@@ -200,13 +183,13 @@ module _ {more : List ℕ} where
   -- ---- the log
 
   -- the test for room, and k after it
-  roomy : (k : Ran World (Unit {0}) → Ran World (Unit {0})) → ((w : World) → Grows w (end (k (halt LogFull w)))) → ((w : World) → full w ≡ false → Grows w (end (k (done tt w))))
+  roomy : (k : Ran World (Unit {0}) → Ran World (Unit {0})) → ((w : World) → Grows w (endOf (k (halt LogFull w)))) → ((w : World) → full w ≡ false → Grows w (endOf (k (done tt w))))
       → ((w : World) → Repeats more (k (halt LogFull w)) (k (halt LogFull (extended more w)))) → ((w : World) → Repeats more (k (done tt w)) (k (done tt (extended more w))))
       → Extends more (λ w. k (cond (full w) (stop LogFull) skip w))
   unfolding stop skip
   roomy k a b c d = record { grows = λ w. grow w (full w) refl; repeats = λ w. repeat w (full w) }
     where
-      grow : (w : World) (t : Bool) → full w ≡ t → Grows w (end (k (cond t (stop LogFull) skip w)))
+      grow : (w : World) (t : Bool) → full w ≡ t → Grows w (endOf (k (cond t (stop LogFull) skip w)))
       grow w true e = a w
       grow w false e = b w e
 
@@ -258,17 +241,17 @@ taking asked rest short garbled cut =
 abbrev takeFrom : ℕ → List ℕ → M Outcome
 takeFrom asked rest = taking asked rest (isShort rest) (isGarbled rest) (isCut rest)
 
-grows-taking : (asked : ℕ) (rest : List ℕ) (short garbled cut : Bool) (w : World) → Grows w (end (taking asked rest short garbled cut w))
+grows-taking : (asked : ℕ) (rest : List ℕ) (short garbled cut : Bool) (w : World) → Grows w (endOf (taking asked rest short garbled cut w))
 unfolding _>>_ when stop skip change return
 grows-taking asked rest true garbled cut w = still
 grows-taking asked rest false true cut w = still
 grows-taking asked rest false false true w = still
 grows-taking asked rest false false false w = still
 
-grows-take : (asked : ℕ) (rest : List ℕ) (w : World) → Grows w (end (takeFrom asked rest w))
+grows-take : (asked : ℕ) (rest : List ℕ) (w : World) → Grows w (endOf (takeFrom asked rest w))
 grows-take asked rest w = grows-taking asked rest (isShort rest) (isGarbled rest) (isCut rest) w
 
-module _ {more : List ℕ} (asked : ℕ) (w : World) {r : Ran World Outcome} (g : Grows w (end r)) where
+module _ {more : List ℕ} (asked : ℕ) (w : World) {r : Ran World Outcome} (g : Grows w (endOf r)) where
   -- a whole header is left, and t after it
   repeats-header : (a b c d : ℕ) (t : List ℕ) (garbled cut : Bool) → isCut (a ∷ b ∷ c ∷ d ∷ t) ≡ cut → r ≡ taking asked (a ∷ b ∷ c ∷ d ∷ (t ++ more)) false garbled (isCut (a ∷ b ∷ c ∷ d ∷ (t ++ more))) (extended more w)
       → Repeats more (taking asked (a ∷ b ∷ c ∷ d ∷ t) false garbled cut w) r

@@ -6,8 +6,8 @@ use native.Mathlib.Nat.{zero-add, suc-add}
 use native.Mathlib.Omega.{arith}
 use lib.ListN.{length, getD, drop, length-append, length-drop}
 use lib.Seq.{drop-append-le}
-use Rattle.usb_device.specs.Access.{write}
-use Rattle.usb_device.proofs.Writes.{write-nil, write-append}
+use Rattle.usb_store.specs.Access.{write}
+use Rattle.usb_store.proofs.Writes.{write-nil, write-append}
 use Rattle.usb_model.specs.World.{World}
 use Rattle.usb_model.specs.Kept.{requestsIn, Onward}
 

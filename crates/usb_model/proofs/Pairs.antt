@@ -7,8 +7,8 @@ use native.Mathlib.Omega.{arith}
 use borrow.Author.Tests.{eqb-false}
 use lib.Dec.{eqb}
 use Rattle.usb_types.specs.declared.types.ErrorCode.the-variants.{BusFull}
-use Rattle.usb_device.specs.Layout.{Child}
-use Rattle.usb_device.specs.Access.{byteAt}
+use Rattle.usb_store.specs.Layout.{Child}
+use Rattle.usb_store.specs.Access.{byteAt}
 use Rattle.usb_device.specs.Device.{newDevice, firstUnused, freePlaces}
 use Rattle.usb_device.proofs.Free.{first-most}
 use Rattle.usb_model.specs.Programs.{Ran, on, _>>=_, _>>_, return, skip, throw, look, change, caught, attempt, ignore, when, each}

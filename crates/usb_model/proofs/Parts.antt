@@ -3,13 +3,13 @@ use mathlib.Core.Path.{_≡_, refl, ap, subst}
 use mathlib.Core.Bool.{Bool, true, false, cond}
 use mathlib.Core.Logic.{inl}
 use mathlib.Core.List.{List}
-use Prim.Native.Nat.{ℕ, _+_, _-_, _*_, _≤_, _<_, _^_}
+use Prim.Native.Nat.{ℕ, _+_, _*_, _≤_, _<_, _^_}
 use native.Mathlib.Omega.{arith}
 use lib.Dec.{eqb}
 use lib.ListN.{length}
 use Rattle.usb_types.specs.Requests.{GetStatus, ClearFeature, SetFeature, GetDescriptor, ToDevice, ToHub, ToPort, directionOf, deviceRequest}
-use Rattle.usb_device.specs.Layout.{Speed, Hub, DeviceDescriptor, MaxPacketSize0, HubStatus, PortStatus, MaxChildren, PowerGoodDelay}
-use Rattle.usb_device.specs.Access.{byteAt}
+use Rattle.usb_store.specs.Layout.{Speed, Hub, DeviceDescriptor, MaxPacketSize0, HubStatus, PortStatus, MaxChildren, PowerGoodDelay}
+use Rattle.usb_store.specs.Access.{byteAt}
 use Rattle.usb_model.specs.World.{get, microDelay, dwcUpdateHostFrameInterval}
 use Rattle.usb_model.specs.Features.{PORT-POWER}
 use Rattle.usb_model.specs.Transfer.{Outcome, into, nowhere, usbGetDescriptor}

@@ -17,10 +17,10 @@ use Rattle.usb_types.proofs.Lengths.{request-length, wait-length, frame-length}
 use Rattle.usb_types.specs.declared.types.Halt.the-variants.{GarbledOutcome, OutcomesSpent, LogFull}
 use Rattle.usb_types.specs.declared.request.UsbDeviceRequest.{UsbDeviceRequest}
 use Rattle.usb_types.specs.declared.pipe.UsbPipeAddress.{UsbPipeAddress}
-use Rattle.usb_device.specs.Layout.{Child, MaxChildren, Error, LastTransfer}
-use Rattle.usb_device.specs.Access.{write}
-use Rattle.usb_device.proofs.Fields.{bytes-most}
-use Rattle.usb_device.proofs.Writes.{length-write}
+use Rattle.usb_store.specs.Layout.{Child, MaxChildren, Error, LastTransfer}
+use Rattle.usb_store.specs.Access.{write}
+use Rattle.usb_store.proofs.Fields.{bytes-most}
+use Rattle.usb_store.proofs.Writes.{length-write}
 use Rattle.usb_device.proofs.Free.{first-most}
 use Rattle.usb_model.specs.Programs.{on, _>>=_, _>>_, return, skip, stop, look, change, when}
 use Rattle.usb_model.specs.World.{World, withStore, get, getBytes, getNumber, put, putBytes, putNumber, appended, counted, logAction, logRequest, microDelay, dwcUpdateHostFrameInterval}
@@ -89,7 +89,7 @@ Logged w action requests = record {
   at = record { logged = w .at .logged + 16; taken = w .at .taken; requests = requests };
 }
 
-log-onward : {w : World} (action : List ℕ) (requests : ℕ) → length action ≡ 16 → requests ≡ w .at .requests + requestsIn 1 action → Onward w (Logged w action requests)
+pub log-onward : {w : World} (action : List ℕ) (requests : ℕ) → length action ≡ 16 → requests ≡ w .at .requests + requestsIn 1 action → Onward w (Logged w action requests)
 log-onward {w} action requests long e = record {
   store = refl;
   free = omega arith;

@@ -2,13 +2,13 @@
 use mathlib.Core.Path.{_≡_, refl, sym, _∙_, subst}
 use mathlib.Core.Logic.{_⊎_, inl, inr, ⊎-elim}
 use mathlib.Core.List.{List, [], _∷_}
-use Prim.Native.Nat.{ℕ, _+_, _-_, _*_, _≤_, _<_}
+use Prim.Native.Nat.{ℕ, _+_, _*_, _≤_, _<_}
 use native.Mathlib.Omega.{arith}
 use native.Mathlib.Decide.{decLt}
 use lib.ListN.{length}
-use Rattle.usb_device.specs.Layout.{Used, Number, Status, Hub, ConfigurationValue, Child}
-use Rattle.usb_device.specs.Access.{byteAt, withBytes, withByte}
-use Rattle.usb_device.proofs.Fields.{Apart, byte-other}
+use Rattle.usb_store.specs.Layout.{Used, Number, Status, Hub, ConfigurationValue, Child}
+use Rattle.usb_store.specs.Access.{byteAt, withBytes, withByte}
+use Rattle.usb_store.proofs.Fields.{Apart, byte-other}
 use Rattle.usb_model.specs.World.{put, putBytes}
 use Rattle.usb_model.specs.Kept.{Bytes}
 use Rattle.usb_model.specs.History.{Event}

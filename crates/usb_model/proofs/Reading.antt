@@ -1,7 +1,7 @@
 -- The history is what the model did: an action that is logged at the end adds its one event. Assumes nothing.
 use mathlib.Core.Path.{_≡_, refl, sym, ap, _∙_, subst}
 use mathlib.Core.List.{List, [], _∷_}
-use Prim.Native.Nat.{ℕ, zero, suc, _+_, _-_, _*_, _≤_, _<_, _^_}
+use Prim.Native.Nat.{ℕ, zero, suc, _+_, _*_, _≤_, _<_, _^_}
 use native.Mathlib.Nat.{zero-add, suc-add}
 use native.Mathlib.Omega.{arith}
 use lib.ListN.{length, take, drop}
@@ -10,7 +10,7 @@ use Rattle.usb_types.specs.Actions.{requestAction, waitAction, frameIntervalAct
 use Rattle.usb_types.specs.declared.request.UsbDeviceRequest.{UsbDeviceRequest}
 use Rattle.usb_types.specs.declared.pipe.UsbPipeAddress.{UsbPipeAddress}
 use Rattle.usb_types.proofs.LittleEndian.{from-le}
-use Rattle.usb_device.specs.Access.{write}
+use Rattle.usb_store.specs.Access.{write}
 use Rattle.usb_model.specs.World.{World}
 use Rattle.usb_model.specs.History.{Event, asked, waited, framed, requestOf, sizeOf, outcomeOf, Reading, reading, readAction, readLog}
 

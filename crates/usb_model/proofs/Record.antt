@@ -3,7 +3,7 @@
 use mathlib.Core.Path.{_≡_, refl, sym, ap, _∙_, subst}
 use mathlib.Core.Bool.{Bool, true, false, cond}
 use mathlib.Core.List.{List, [], _∷_}
-use Prim.Native.Nat.{ℕ, zero, suc, _+_, _-_, _≤_}
+use Prim.Native.Nat.{ℕ, zero, suc, _≤_}
 use native.Mathlib.Omega.{arith}
 use lib.Dec.{eqb, ltb}
 use lib.ListN.{length, getD, take, drop, length-drop}
@@ -12,11 +12,11 @@ use Rattle.usb_types.specs.declared.types.ErrorCode.{ErrorCode}
 use Rattle.usb_types.specs.declared.types.ErrorCode.the-variants.{GarbledConfiguration}
 use Rattle.usb_types.specs.declared.descriptors.DescriptorKind.{DescriptorKind}
 use Rattle.usb_types.specs.declared.descriptors.DescriptorKind.the-variants.{Interface, Endpoint, Other}
-use Rattle.usb_device.proofs.Writes.{length-write}
-use Rattle.usb_model.specs.Programs.{Ran, done, fail, halt, on, Program, _>>=_, _>>_, return, skip, throw, when}
+use Rattle.usb_store.proofs.Writes.{length-write}
+use Rattle.usb_model.specs.Programs.{Ran, done, fail, halt, on, Program, _>>=_, _>>_, return, skip, throw, when, endOf}
 use Rattle.usb_model.specs.Walk.{Walk, begin, storeInterface, alternate, storeEndpoint, interfaceAt, endpointAt, InterfaceLength, EndpointLength, interfaceDescriptor, endpointDescriptor, whole, descriptorOf, descriptor, walkFrom, walkAll, walked, walk}
 use Rattle.usb_model.specs.Kept.{Bytes}
-use Rattle.usb_model.proofs.Keeps.{Any, Keeps, left, left-holds, bind, next, gives, skips, throws, peeks, changes, either, whens}
+use Rattle.usb_model.proofs.Keeps.{Any, Keeps, left-holds, bind, next, gives, skips, throws, peeks, changes, either, whens}
 use Rattle.usb_model.proofs.Bytes.{bytes-take, bytes-drop, bytes-write}
 
 -- ---- the record
@@ -56,10 +56,10 @@ module _ {D : List ℕ → Type 0} {P : Walk → Type 0} (c : Copies D P) where
   all-keeps [] h = throws _
   all-keeps (x ∷ d) h = from-keeps _ (drop x (x ∷ d)) (c .rest x (x ∷ d) h)
 
-  walk-keeps : (d kept : List ℕ) → D d → P (begin kept) → P (left (walkAll d (begin kept)))
+  walk-keeps : (d kept : List ℕ) → D d → P (begin kept) → P (endOf (walkAll d (begin kept)))
   walk-keeps d kept h p = left-holds (all-keeps d h .run (begin kept) p)
 
-walked-kept : (r : Ran Walk (Unit {0})) → walked r .kept ≡ left r .kept
+walked-kept : (r : Ran Walk (Unit {0})) → walked r .kept ≡ endOf r .kept
 walked-kept (done a k) = refl
 walked-kept (fail e k) = refl
 walked-kept (halt h k) = refl

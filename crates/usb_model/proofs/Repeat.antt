@@ -10,10 +10,10 @@ use lib.ListN.{length, take}
 use Rattle.usb_types.specs.Answers.{haltNumber}
 use Rattle.usb_types.specs.declared.types.Halt.the-variants.{OutcomesSpent}
 use Rattle.usb_types.specs.declared.request.UsbDeviceRequest.{UsbDeviceRequest}
-use Rattle.usb_device.specs.Access.{write}
+use Rattle.usb_store.specs.Access.{write}
+use Rattle.usb_store.proofs.Writes.{length-write}
 use Rattle.usb_device.specs.Device.{firstUnused}
-use Rattle.usb_device.proofs.Writes.{length-write}
-use Rattle.usb_model.specs.Programs.{Ran, done, fail, halt}
+use Rattle.usb_model.specs.Programs.{Ran, done, fail, halt, endOf}
 use Rattle.usb_model.specs.World.{World, M}
 use Rattle.usb_model.specs.Transfer.{Buffer, usbControlMessage, control, read, usbGetDescriptor}
 use Rattle.usb_model.specs.Usbd.{readDeviceDescriptor, usbReadDeviceDescriptor, usbSetAddress, usbSetConfigure, usbConfigure, usbAllocateDevice}
@@ -21,7 +21,7 @@ use Rattle.usb_model.specs.Hub.{hubReadDescriptor, hubGetStatus, hubChan
 use Rattle.usb_model.specs.Attach.{usbAttachDevice, attachBelow, attachNew, usbAttachRootHub}
 use Rattle.usb_model.specs.Entry.{Lent, Verdict, accepted, refused, isUnused, noPort, rootVerdict, hubVerdict, start, leaves, answered, call, rootAttach, scan, portCheck, childReset, childCheck, retriedReset, connectionChange}
 use Rattle.usb_model.specs.Repeat.{withMore, Repeated}
-use Rattle.usb_model.proofs.More.{end, Grows, still, Repeats, same, spent, Extends, bind, looks, Steps}
+use Rattle.usb_model.proofs.More.{Grows, still, Repeats, same, spent, Extends, bind, looks, Steps}
 
 -- ---- the functions
 
@@ -180,7 +180,7 @@ module _ (lent : Lent) where
         agree = rw log′ (take-write (16 * o .actions) (v .log) (p .news));
       }
 
-  answers : {more : List ℕ} {r r′ : Ran World (Unit {0})} → Grows (start lent) (end r) → Repeats more r r′ → Repeated lent (answered r) (answered r′)
+  answers : {more : List ℕ} {r r′ : Ran World (Unit {0})} → Grows (start lent) (endOf r) → Repeats more r r′ → Repeated lent (answered r) (answered r′)
   answers g (same {r = done a v}) = goes-on v v g still (λ _. refl)
   answers g (same {r = fail e v}) = goes-on v v g still (λ _. refl)
   answers g (same {r = halt h v}) = goes-on v v g still (λ _. refl)

@@ -2,15 +2,15 @@
 use mathlib.Core.Path.{_≡_, refl, sym, ap, _∙_, subst}
 use mathlib.Core.Bool.{Bool, true, false, not, false≢true}
 use mathlib.Core.List.{List, _∷_}
-use Prim.Native.Nat.{ℕ, zero, suc, _+_, _-_, _≤_, _<_}
+use Prim.Native.Nat.{ℕ, zero, suc, _+_, _≤_, _<_}
 use native.Mathlib.Omega.{arith}
 use borrow.Author.Tests.{ltb-false, not-false}
 use lib.ListN.{length}
 use Rattle.usb_types.specs.Numbers.{fromLittleEndian}
 use Rattle.usb_types.specs.Requests.{ClearFeature, SetFeature, ToPort, deviceRequest}
 use Rattle.usb_types.specs.declared.request.UsbDeviceRequest.{UsbDeviceRequest}
-use Rattle.usb_device.specs.Layout.{Number, PortStatus}
-use Rattle.usb_device.specs.Access.{byteAt, numberAt}
+use Rattle.usb_store.specs.Layout.{Number, PortStatus}
+use Rattle.usb_store.specs.Access.{byteAt, numberAt}
 use Rattle.usb_model.specs.World.{microDelay}
 use Rattle.usb_model.specs.Features.{PORT-RESET, C-PORT-RESET, bit}
 use Rattle.usb_model.specs.Transfer.{Outcome, Buffer, into, nowhere, control, read}

@@ -8,10 +8,10 @@ use native.Mathlib.Omega.{arith}
 use borrow.Author.Tests.{eqb-true, eqb-false, not-true, not-false}
 use lib.Dec.{eqb}
 use Rattle.usb_types.specs.declared.types.ErrorCode.the-variants.{BusFull}
-use Rattle.usb_device.specs.Layout.{Number, Used, Speed, PortNumber, Parent, Hub, HubDescriptor, Child, MaxChildren}
-use Rattle.usb_device.specs.Access.{byteAt, withByte, withBytes}
+use Rattle.usb_store.specs.Layout.{Number, Used, Speed, PortNumber, Parent, Hub, HubDescriptor, Child, MaxChildren}
+use Rattle.usb_store.specs.Access.{byteAt, withByte, withBytes}
+use Rattle.usb_store.proofs.Fields.{byte-same}
 use Rattle.usb_device.specs.Device.{newDevice, firstUnused, blank}
-use Rattle.usb_device.proofs.Fields.{byte-same}
 use Rattle.usb_device.proofs.Free.{first-most}
 use Rattle.usb_sound.specs.Sound.{IsChild, Sound}
 use Rattle.usb_sound.proofs.Hubs.{child-below}

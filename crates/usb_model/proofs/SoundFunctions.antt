@@ -6,8 +6,8 @@ use Prim.Native.Nat.{ℕ, zero, suc, _+_, _≤_, _<_}
 use native.Mathlib.Omega.{arith}
 use borrow.Author.Tests.{ltb-true, not-false}
 use lib.Dec.{eqb, ltb}
-use Rattle.usb_device.specs.Layout.{Number, Speed, Status, ConfigurationIndex, PortNumber, Parent, Hub, DeviceDescriptor, MaxPacketSize0, ConfigurationDescriptor, Interfaces, HubStatus, PortStatus, Child}
-use Rattle.usb_sound.specs.Sound.{OneOf}
+use Rattle.usb_store.specs.Layout.{Number, Speed, Status, ConfigurationIndex, PortNumber, Parent, Hub, DeviceDescriptor, MaxPacketSize0, ConfigurationDescriptor, Interfaces, HubStatus, PortStatus, Child}
+use Rattle.usb_place.specs.Rules.{OneOf}
 use Rattle.usb_model.specs.World.{put}
 use Rattle.usb_model.specs.Features.{PORT-ENABLE, PORT-LOW-SPEED, PORT-HIGH-SPEED, C-PORT-RESET, bit}
 use Rattle.usb_model.specs.Transfer.{Buffer, into, nowhere, usbGetDescriptor}

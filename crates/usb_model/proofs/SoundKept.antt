@@ -7,17 +7,17 @@ use mathlib.Core.List.{List}
 use Prim.Native.Nat.{ℕ, _<_}
 use native.Mathlib.Omega.{arith}
 use borrow.Author.Tests.{ltb-false}
-use Rattle.usb_device.specs.Layout.{Used, Speed, Hub}
-use Rattle.usb_device.specs.Access.{byteAt}
+use Rattle.usb_store.specs.Layout.{Used, Speed, Hub}
+use Rattle.usb_store.specs.Access.{byteAt}
 use Rattle.usb_sound.specs.Sound.{Sound}
 use Rattle.usb_sound.proofs.Hubs.{hub-used}
-use Rattle.usb_model.specs.Programs.{Ran, done, fail, halt}
+use Rattle.usb_model.specs.Programs.{Ran, done, fail, halt, endOf}
 use Rattle.usb_model.specs.World.{World, M}
 use Rattle.usb_model.specs.Hub.{hubPortReset, hubChildReset, hubPortConnectionChanged, hubCheckConnection, hubCheckConnectionDevice, hubCheckForChange}
 use Rattle.usb_model.specs.Attach.{attachBelow, usbAttachRootHub}
 use Rattle.usb_model.specs.Entry.{Lent, Verdict, accepted, refused, isUnused, noPort, rootVerdict, hubVerdict, start, answered, call, rootAttach, scan, portCheck, childReset, childCheck, retriedReset, connectionChange}
 use Rattle.usb_model.proofs.Accepted.{root-accepted, hub-accepted}
-use Rattle.usb_model.proofs.Keeps.{Any, left, left-holds, Safe, Keeps, next-to}
+use Rattle.usb_model.proofs.Keeps.{Any, left-holds, Safe, Keeps, next-to}
 use Rattle.usb_model.proofs.SoundStores.{At}
 use Rattle.usb_model.proofs.SoundPlaces.{root-sound, root-since, root-fresh}
 use Rattle.usb_model.proofs.SoundSteps.{Held, since-join, puts}
@@ -28,7 +28,7 @@ use Rattle.usb_model.proofs.SoundCycle.{here, grown, moved, allocates, 
 
 -- the world that m leaves from w has a sound store, later than that of w
 abbrev pub Stays : M (Unit {0}) → World → Type 0
-Stays m w = Held false (w .store) (left (m w))
+Stays m w = Held false (w .store) (endOf (m w))
 
 stays : {m : M (Unit {0})} (w : World) → Sound (w .store) → Keeps (Held false (w .store)) m Any → Stays m w
 stays w r h = left-holds (h .run w (here w r))
@@ -76,7 +76,7 @@ root-hub-stays w r none speed l = left-holds (root-hub speed l .run w (record { 
 
 -- ---- the entry points
 
-answered-sound : {s : List ℕ} (r : Ran World (Unit {0})) → Held false s (left r) → Sound (answered r .new)
+answered-sound : {s : List ℕ} (r : Ran World (Unit {0})) → Held false s (endOf r) → Sound (answered r .new)
 answered-sound (done a w) h = h .sound
 answered-sound (fail e w) h = h .sound
 answered-sound (halt x w) h = h .sound

@@ -8,13 +8,14 @@ use native.Mathlib.Omega.{arith}
 use native.Mathlib.Decide.{ℕ-discrete, decLt}
 use lib.ListN.{length, getD, take, drop, replicate, getD-replicate}
 use lib.Seq.{getD-take, getD-drop}
-use Rattle.usb_device.specs.Layout.{Used, PortNumber, Parent, Hub, Error, Child}
-use Rattle.usb_device.specs.Access.{Within, byteAt, numberAt, withBytes, withByte}
+use Rattle.usb_store.specs.Layout.{Used, PortNumber, Parent, Hub, Error, Child}
+use Rattle.usb_store.specs.Access.{Within, byteAt, numberAt, withBytes, withByte}
+use Rattle.usb_store.proofs.Fields.{with-length, byte-same}
 use Rattle.usb_device.specs.Device.{newDevice, firstUnused}
-use Rattle.usb_device.proofs.Fields.{with-length, byte-same}
 use Rattle.usb_device.proofs.Free.{first-before, first-unused, new-byte}
 use Rattle.usb_device.proofs.NewDevice.{length-new}
-use Rattle.usb_sound.specs.Sound.{OneOf, errors, IsUsed, IsChild, ChildOnce, Sound}
+use Rattle.usb_place.specs.Rules.{OneOf, errors}
+use Rattle.usb_sound.specs.Sound.{IsUsed, IsChild, ChildOnce, Sound}
 use Rattle.usb_model.proofs.SoundStores.{other-place, Rule, Cells, hub-grows, edited, error-same, one-other, Since, At, is-used}
 
 -- ---- a new device

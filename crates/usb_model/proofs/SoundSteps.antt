@@ -10,11 +10,12 @@ use lib.Dec.{ltb}
 use lib.ListN.{length, getD, take, length-take}
 use Rattle.usb_types.specs.Outcomes.{listed, errorWord}
 use Rattle.usb_types.specs.declared.request.UsbDeviceRequest.{UsbDeviceRequest}
-use Rattle.usb_device.specs.Layout.{Number, LastTransfer, MaxChildren}
-use Rattle.usb_sound.specs.Sound.{OneOf, errors, Sound, Decides}
-use Rattle.usb_sound.specs.Test.{oneOf, every}
-use Rattle.usb_sound.proofs.Tests.{eq-decides, lt-decides, and-decides, or-decides, one-decides, every-decides}
-use Rattle.usb_device.proofs.Fields.{bytes-most}
+use Rattle.usb_store.specs.Layout.{Number, LastTransfer, MaxChildren}
+use Rattle.usb_place.specs.Rules.{OneOf, errors, Decides}
+use Rattle.usb_place.specs.Test.{oneOf, every}
+use Rattle.usb_place.proofs.Tests.{eq-decides, lt-decides, and-decides, or-decides, one-decides, every-decides}
+use Rattle.usb_sound.specs.Sound.{Sound}
+use Rattle.usb_store.proofs.Fields.{bytes-most}
 use Rattle.usb_model.specs.World.{World, withStore, get, getBytes, getNumber, put, putBytes, putNumber, appended, counted, logAction, logRequest, microDelay, dwcUpdateHostFrameInterval}
 use Rattle.usb_model.specs.Transfer.{taken, takeOutcome, Buffer, usbControlMessage, control, read}
 use Rattle.usb_model.proofs.Keeps.{Any, Keeps, bind, next, gives, throws, stops, looks, peeks, changes, succeeds, whens, stops-if}

@@ -9,12 +9,13 @@ use native.Mathlib.Omega.{arith}
 use native.Mathlib.Decide.{ℕ-discrete, decLt}
 use lib.ListN.{length, getD}
 use Rattle.usb_types.specs.Numbers.{littleEndian}
-use Rattle.usb_device.specs.Layout.{Used, Number, Speed, Status, PortNumber, Parent, Hub, Error, Child, MaxChildren}
-use Rattle.usb_device.specs.Access.{Within, byteAt, numberAt, withBytes, withByte, withNumber}
-use Rattle.usb_device.proofs.Fields.{places-apart, fields-apart, with-length, byte-other, byte-same, bytes-same, byte-of-bytes, number-4, number-same, number-other}
-use Rattle.usb_sound.specs.Sound.{OneOf, speeds, statuses, errors, hubs, IsUsed, IsChild, ParentFits, ChildOnce, Sound}
-use Rattle.usb_sound.specs.Test.{oneOf, every}
-use Rattle.usb_sound.proofs.Tests.{one-decides, every-decides}
+use Rattle.usb_store.specs.Layout.{Used, Number, Speed, Status, PortNumber, Parent, Hub, Error, Child, MaxChildren}
+use Rattle.usb_store.specs.Access.{Within, byteAt, numberAt, withBytes, withByte, withNumber}
+use Rattle.usb_store.proofs.Fields.{places-apart, fields-apart, with-length, byte-other, byte-same, bytes-same, byte-of-bytes, number-4, number-same, number-other}
+use Rattle.usb_place.specs.Rules.{OneOf, speeds, statuses, errors, hubs}
+use Rattle.usb_place.specs.Test.{oneOf, every}
+use Rattle.usb_place.proofs.Tests.{one-decides, every-decides}
+use Rattle.usb_sound.specs.Sound.{IsUsed, IsChild, ParentFits, ChildOnce, Sound}
 
 -- ---- a byte of a store in which a field was written: as it was, or one of those written
 

@@ -6,11 +6,11 @@ use Prim.Native.Nat.{ℕ, _+_, _≤_, _<_}
 use native.Mathlib.Omega.{arith}
 use native.Mathlib.Decide.{ℕ-discrete, decLt}
 use lib.ListN.{length, getD, getD-replicate}
-use Rattle.usb_device.specs.Layout.{Used, Child, MaxChildren}
-use Rattle.usb_device.specs.Access.{offset, byteAt, withBytes, withByte}
+use Rattle.usb_store.specs.Layout.{Used, Child, MaxChildren}
+use Rattle.usb_store.specs.Access.{offset, byteAt, withBytes, withByte}
+use Rattle.usb_store.proofs.Writes.{write-nil}
+use Rattle.usb_store.proofs.Fields.{Apart, with-length, byte-other, byte-same}
 use Rattle.usb_device.specs.Device.{newDevice, firstUnused, freePlaces}
-use Rattle.usb_device.proofs.Writes.{write-nil}
-use Rattle.usb_device.proofs.Fields.{Apart, with-length, byte-other, byte-same}
 use Rattle.usb_device.proofs.Free.{first-most, first-before, first-least, first-unused, free-field, free-taken, new-used, new-byte}
 use Rattle.usb_device.proofs.NewDevice.{length-new}
 use Rattle.usb_device.proofs.HubRecord.{ten-at}

@@ -9,12 +9,13 @@ use Rattle.usb_types.specs.declared.types.ErrorCode.{ErrorCode}
 use Rattle.usb_types.specs.declared.types.Halt.{Halt}
 use Rattle.usb_types.specs.declared.types.Answer.{Answer}
 use Rattle.usb_types.specs.declared.types.Answer.the-variants.{Ok, Error, Stop}
-use Rattle.usb_device.specs.Access.{byteAt}
+use Rattle.usb_store.specs.Access.{byteAt}
 use Rattle.usb_model.specs.Programs.{if_then_else_, Ran, done, fail, halt, on, _>>=_, _>>_, return, skip, throw, look, change, ran, succeed, caught, attempt, ignore, when, each}
 use Rattle.usb_model.specs.World.{World, M, withStore, get, getNumber}
 use Rattle.usb_model.specs.Hub.{isOk}
 use Rattle.usb_model.specs.Kept.{Good}
 use Rattle.usb_model.specs.History.{Event}
+use Rattle.usb_model.proofs.Keeps.{Any}
 use Rattle.usb_model.proofs.Bytes.{byte-at}
 use Rattle.usb_model.proofs.Stores.{Follows, store-good}
 use Rattle.usb_model.proofs.Reading.{Reads}
@@ -26,9 +27,6 @@ module _ (h₀ : List Event) where
     pub past : List Event
     pub good : Good world
     pub reads : Reads h₀ world past
-
-abbrev pub Nothing : {A : Type 0} → A → Type 0
-Nothing a = Unit {0}
 
 module _ {h₀ : List Event} where
   abbrev pub store : State h₀ → List ℕ
@@ -172,7 +170,7 @@ module _ {h₀ : List Event} where
     pub run : (s : State h₀) → Leads (λ a t. R s t × S a) (R s) (m (s .world))
 
   abbrev pub Keeps : (State h₀ → State h₀ → Type 0) → {A : Type 0} → M A → Type 0
-  Keeps R m = Gives R Nothing m
+  Keeps R m = Gives R Any m
 
   -- a part that keeps to R
   pub does-keep : {P N : State h₀ → Type 0} {R : State h₀ → State h₀ → Type 0} {A : Type 0} {S : A → Type 0} {m : M A} (Q : State h₀ → Type 0) → Gives R S m → ((s t : State h₀) → P s → R s t → Q t) → ((s : State h₀) → Q s → N s) → Does P m (λ a s. Q s × S a) N

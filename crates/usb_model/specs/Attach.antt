@@ -1,8 +1,8 @@
 -- usbd.rs: the attach of a device, and of the root hub.
 use Prim.Native.Nat.{ℕ, zero, suc}
 use Rattle.usb_types.specs.Descriptors.{isHubClass}
-use Rattle.usb_device.specs.Layout.{Places, Number, Speed, Status, InterfaceClass}
-use Rattle.usb_device.specs.Device.{Default, Powered}
+use Rattle.usb_store.specs.Layout.{Places, Number, Speed, Status, InterfaceClass}
+use Rattle.usb_store.specs.Values.{Default, Powered}
 use Rattle.usb_model.specs.Programs.{_>>=_, _>>_, skip, succeed, attempt, when}
 use Rattle.usb_model.specs.World.{M, get, put}
 use Rattle.usb_model.specs.Usbd.{usbReadDeviceDescriptor, usbSetAddress, usbConfigure, usbAllocateDevice}
@@ -26,7 +26,7 @@ usbAttachDevice attach place = do
   when (isHubClass class) (hubAttach attach place)
 
 -- "A hub's attach starts its children's, which may start a hub's again. Free places fall": the number bounds the free places, and a
--- device is attached only after it has taken one, so attachBelow 0 is never run (proofs/Fuel.antt)
+-- device is attached only after it has taken one, so attachBelow 0 is never run (proofs/Cycle.antt, `attach-fuel`)
 unfoldable pub attachBelow : ℕ → ℕ → M (Unit {0})
 attachBelow zero place = skip
 attachBelow (suc free) place = usbAttachDevice (attachBelow free) place

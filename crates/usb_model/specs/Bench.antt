@@ -4,8 +4,9 @@ use mathlib.Core.List.{List, [], _∷_, _++_}
 use Prim.Native.Nat.{ℕ, _*_}
 use lib.IntN.{ℤ}
 use lib.ListN.{length, take, drop, set, replicate}
+use Rattle.usb_types.specs.Actions.{ActionLength}
 use Rattle.usb_types.specs.Numbers.{minus, littleEndian}
-use Rattle.usb_device.specs.Layout.{Parent, Hub, Child, MaxChildren}
+use Rattle.usb_store.specs.Layout.{Parent, Hub, Child, MaxChildren, emptyStore}
 use Rattle.usb_device.specs.Device.{newDevice, repeat}
 use Rattle.usb_model.specs.Entry.{Lent, Left, rootAttach, childReset, configurationWalk}
 
@@ -53,7 +54,7 @@ lend old outcomes = record { old = old; new = lentStore; outcomes = outcomes; lo
 
 -- n actions of the log, the first of them counted from 0
 abbrev pub actions : ℕ → ℕ → Left → List ℕ
-actions first n left = take (16 * n) (drop (16 * first) (left .log))
+actions first n left = take (ActionLength * n) (drop (ActionLength * first) (left .log))
 
 -- n bytes of place 0 in the new store
 abbrev pub field : ℕ → ℕ → Left → List ℕ
@@ -120,9 +121,6 @@ vacantHub ports read delay =
     ++ gives hubStatus ++ repeat read succeeds ++ gives hubStatus ++ repeat read (gives vacant)
 
 -- ---- stores
-
-abbrev pub emptyStore : List ℕ
-emptyStore = replicate 36864 0
 
 -- place 0: a hub with descriptor and ten ports; at port 0 stands place 1
 unfoldable pub rootPlace : List ℕ

@@ -3,8 +3,9 @@ use mathlib.Core.Bool.{Bool, cond, not, _&&_}
 use mathlib.Core.List.{List}
 use Prim.Native.Nat.{ℕ, zero, suc, _+_, _-_, _*_}
 use lib.Dec.{eqb}
-use Rattle.usb_device.specs.Layout.{Places, Used, Hub}
-use Rattle.usb_device.specs.Access.{byteAt}
+use Rattle.usb_store.specs.Layout.{Places, Used, Hub}
+use Rattle.usb_store.specs.Access.{byteAt}
+use Rattle.usb_store.specs.Values.{NoHub}
 use Rattle.usb_device.specs.Device.{freePlaces}
 use Rattle.usb_model.specs.Entry.{Lent, Left, Verdict, accepted, refused}
 
@@ -14,7 +15,7 @@ devices s = Places - freePlaces s
 
 -- "h of them hubs", "a hub has a hub byte other than 0"
 abbrev pub isHub : List ℕ → ℕ → Bool
-isHub s place = not (eqb (byteAt s place Used) 0) && not (eqb (byteAt s place Hub) 0)
+isHub s place = not (eqb (byteAt s place Used) 0) && not (eqb (byteAt s place Hub) NoHub)
 
 -- how many of the first n places are hubs
 unfoldable pub hubsBelow : List ℕ → ℕ → ℕ

@@ -23,14 +23,14 @@ use mathlib.Core.Path.{_≡_}
 use mathlib.Core.Bool.{true, false}
 use mathlib.Core.List.{List, [], _∷_}
 use Prim.Native.Nat.{ℕ, suc, _+_, _*_, _≤_, _<_}
-use lib.ListN.{length, replicate}
+use lib.ListN.{length}
 use Rattle.usb_types.specs.Numbers.{fromLittleEndian}
 use Rattle.usb_types.specs.Requests.{GetStatus, ClearFeature, SetFeature, SetAddress, SetConfiguration, ToDevice, ToPort, deviceRequest}
 use Rattle.usb_types.specs.declared.types.ErrorCode.{ErrorCode}
 use Rattle.usb_types.specs.declared.request.UsbDeviceRequest.{UsbDeviceRequest}
-use Rattle.usb_device.specs.Layout.{Places, StoreLength, Used, Status, ConfigurationValue, Child}
-use Rattle.usb_device.specs.Access.{byteAt}
-use Rattle.usb_device.specs.Device.{Configured}
+use Rattle.usb_store.specs.Layout.{Places, Used, Status, ConfigurationValue, Child, Ports, emptyStore}
+use Rattle.usb_store.specs.Access.{byteAt}
+use Rattle.usb_store.specs.Values.{Configured}
 use Rattle.usb_model.specs.Programs.{Ran, done, fail}
 use Rattle.usb_model.specs.World.{World, M}
 use Rattle.usb_model.specs.Features.{PORT-RESET, C-PORT-RESET, bit}
@@ -73,7 +73,7 @@ pub data Ended : Ran World (Unit {0}) → World → Type 0 where
 -- accepted and ended in the world w leaves w's store and log (proofs/Demand3.antt, `leaves-ended`), and its n actions join the history.
 -- `refusal`: "After an entry refusal the next call takes the same store, and the history gains nothing".
 pub data Reached : List ℕ → List Event → Type 0 where
-  empty : Reached (replicate StoreLength 0) []
+  empty : Reached emptyStore []
   refusal : {s : List ℕ} {h : List Event} → Reached s h → (c : Call) (lent : Lent) → lent .old ≡ s
       → (verdict c lent ≡ accepted → ⊥) → Reached s h
   ran : {s : List ℕ} {h : List Event} {w : World} → Reached s h → (c : Call) (lent : Lent) → lent .old ≡ s → LentBytes lent
@@ -131,7 +131,7 @@ pub record ShownConfigured (s : List ℕ) (place : ℕ) : Type 0 where
 
 pub record Stands (s : List ℕ) (hub port place : ℕ) : Type 0 where
   pub device : Device s hub
-  pub low : port < 10
+  pub low : port < Ports
   pub child : byteAt s hub (Child port) ≡ place + 1
 
 -- "its address was set and acknowledged": SetAddress goes to address 0. `before` held just before it.

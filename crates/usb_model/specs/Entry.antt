@@ -9,8 +9,9 @@ use Rattle.usb_types.specs.Numbers.{minus}
 use Rattle.usb_types.specs.Answers.{errorNumber, haltNumber, answerNumber, refusalNumber}
 use Rattle.usb_types.specs.declared.types.Refusal.{Refusal}
 use Rattle.usb_types.specs.declared.types.Refusal.the-variants.{BadArgument, StoreDamaged, AlreadyAttached, RootSpeed}
-use Rattle.usb_device.specs.Layout.{Places, StoreLength, Used, Hub}
-use Rattle.usb_device.specs.Access.{byteAt}
+use Rattle.usb_store.specs.Layout.{Places, StoreLength, Used, Hub}
+use Rattle.usb_store.specs.Access.{byteAt}
+use Rattle.usb_store.specs.Values.{NoHub}
 use Rattle.usb_sound.specs.Test.{sound}
 use Rattle.usb_model.specs.Programs.{if_then_else_, Ran, done, fail, halt}
 use Rattle.usb_model.specs.World.{World, M}
@@ -59,7 +60,7 @@ isUnused lent place = leb Places place || eqb (byteAt (lent .old) place Used) 0
 
 -- "hub place above 31, unused or not a hub"
 abbrev pub noHub : Lent → ℕ → Bool
-noHub lent hub = isUnused lent hub || eqb (byteAt (lent .old) hub Hub) 0
+noHub lent hub = isUnused lent hub || eqb (byteAt (lent .old) hub Hub) NoHub
 
 -- "port above 9"
 abbrev pub noPort : ℕ → Bool
@@ -107,25 +108,32 @@ unfoldable pub call : Lent → Verdict → M (Unit {0}) → Left
 call lent (refused r) m = record { answer = refusalNumber r; requests = 0; new = lent .new; log = lent .log }
 call lent accepted m = answered (m (start lent))
 
+-- `UsbAttachRootHub`
 unfoldable pub rootAttach : ℕ → Lent → Left
 rootAttach speed lent = call lent (rootVerdict lent speed) (usbAttachRootHub speed)
 
+-- `HubCheckForChange`
 unfoldable pub scan : ℕ → Lent → Left
 scan hub lent = call lent (hubVerdict lent hub false) (hubCheckForChange attachNew Places hub)
 
+-- `HubCheckConnection`
 unfoldable pub portCheck : ℕ → ℕ → Lent → Left
 portCheck hub port lent = call lent (hubVerdict lent hub (noPort port)) (hubCheckConnection attachNew hub port)
 
+-- `HubChildReset`
 unfoldable pub childReset : ℕ → ℕ → Lent → Left
 childReset hub child lent = call lent (hubVerdict lent hub (isUnused lent child)) (hubChildReset hub child)
 
+-- `HubCheckConnectionDevice`
 unfoldable pub childCheck : ℕ → ℕ → Lent → Left
 childCheck hub child lent =
     call lent (hubVerdict lent hub (isUnused lent child)) (hubCheckConnectionDevice attachNew hub child)
 
+-- `HubPortReset`
 unfoldable pub retriedReset : ℕ → ℕ → Lent → Left
 retriedReset hub port lent = call lent (hubVerdict lent hub (noPort port)) (hubPortReset hub port)
 
+-- `HubPortConnectionChanged`
 unfoldable pub connectionChange : ℕ → ℕ → Lent → Left
 connectionChange hub port lent =
     call lent (hubVerdict lent hub (noPort port)) (hubPortConnectionChanged attachNew hub port)

@@ -5,6 +5,7 @@ use mathlib.Core.List.{List, [], _∷_}
 use Prim.Native.Nat.{ℕ, zero, suc, _+_, min}
 use lib.Dec.{eqb}
 use lib.ListN.{getD, take, drop}
+use Rattle.usb_types.specs.Actions.{ActionLength}
 use Rattle.usb_types.specs.Numbers.{fromLittleEndian}
 use Rattle.usb_types.specs.Outcomes.{resultOf}
 use Rattle.usb_types.specs.Requests.{SetFeature, SetAddress, SetConfiguration, ToDevice, ToPort}
@@ -65,7 +66,7 @@ readAction action r =
 -- n actions of a log
 unfoldable pub readLog : ℕ → List ℕ → Reading → Reading
 readLog zero log r = r
-readLog (suc n) log r = readLog n (drop 16 log) (readAction (take 16 log) r)
+readLog (suc n) log r = readLog n (drop ActionLength log) (readAction (take ActionLength log) r)
 
 -- a history, with the n actions of a call joined to it
 unfoldable pub joined : ℕ → List ℕ → List ℕ → List Event → List Event

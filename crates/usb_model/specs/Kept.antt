@@ -8,9 +8,10 @@ use Prim.Native.Nat.{ℕ, zero, suc, _+_, _*_, _≤_, _<_}
 use lib.Dec.{eqb}
 use lib.IntN.{ℤ}
 use lib.ListN.{length, getD, drop}
+use Rattle.usb_types.specs.Actions.{ActionLength}
 use Rattle.usb_types.specs.Numbers.{minus}
-use Rattle.usb_device.specs.Layout.{StoreLength, Child, MaxChildren}
-use Rattle.usb_device.specs.Access.{write, byteAt}
+use Rattle.usb_store.specs.Layout.{StoreLength, Child, MaxChildren, Ports}
+use Rattle.usb_store.specs.Access.{write, byteAt}
 use Rattle.usb_device.specs.Device.{firstUnused, freePlaces}
 use Rattle.usb_model.specs.World.{World}
 use Rattle.usb_model.specs.Entry.{Lent, Left, WalkLeft}
@@ -21,7 +22,7 @@ pub record Bytes (l : List ℕ) : Type 0 where
 -- how many of the first n actions of a log are requests
 unfoldable pub requestsIn : ℕ → List ℕ → ℕ
 requestsIn zero log = 0
-requestsIn (suc n) log = cond (eqb (getD log 0 0) 1) 1 0 + requestsIn n (drop 16 log)
+requestsIn (suc n) log = cond (eqb (getD log 0 0) 1) 1 0 + requestsIn n (drop ActionLength log)
 
 -- a child at port q of place h: it stands above its hub, and all places up to it are used
 pub record Above (s : List ℕ) (h q : ℕ) : Type 0 where
@@ -37,8 +38,8 @@ pub record Good (w : World) : Type 0 where
   pub log : Bytes (w .log)
   pub outcomes : Bytes (w .outcomes)
   -- the rules of a sound store on which loops and recursion rest
-  pub most : (h : ℕ) → byteAt (w .store) h MaxChildren ≤ 10
-  pub child : (h q : ℕ) → q < 10 → byteAt (w .store) h (Child q) ≢ 0 → Above (w .store) h q
+  pub most : (h : ℕ) → byteAt (w .store) h MaxChildren ≤ Ports
+  pub child : (h q : ℕ) → q < Ports → byteAt (w .store) h (Child q) ≢ 0 → Above (w .store) h q
 
 pub record Onward (w v : World) : Type 0 where
   -- the store's length is kept, places are taken and not freed
@@ -51,9 +52,9 @@ pub record Onward (w v : World) : Type 0 where
   -- the log grows by whole actions, at its end; the other bytes stay
   pub actions : ℕ
   pub news : List ℕ
-  pub news-length : length news ≡ 16 * actions
+  pub news-length : length news ≡ ActionLength * actions
   pub log : v .log ≡ write (w .log) (w .at .logged) news
-  pub logged : v .at .logged ≡ w .at .logged + 16 * actions
+  pub logged : v .at .logged ≡ w .at .logged + ActionLength * actions
   -- the requests counted are the actions of kind 1
   pub requests : v .at .requests ≡ w .at .requests + requestsIn actions news
 
@@ -79,7 +80,7 @@ pub record Accounts (lent : Lent) (left : Left) : Type 0 where
   pub log-bytes : Bytes (left .log)
   pub actions : ℕ
   pub news : List ℕ
-  pub news-length : length news ≡ 16 * actions
+  pub news-length : length news ≡ ActionLength * actions
   pub log : left .log ≡ write (lent .log) 0 news
   pub requests : left .requests ≡ requestsIn actions news
 

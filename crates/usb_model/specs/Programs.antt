@@ -16,6 +16,12 @@ pub data Ran (S A : Type 0) : Type 0 where
   fail : ErrorCode → S → Ran S A
   halt : Halt → S → Ran S A
 
+-- the state in which a run ends
+abbrev pub endOf : {S A : Type 0} → Ran S A → S
+endOf (done a s) = s
+endOf (fail e s) = s
+endOf (halt h s) = s
+
 abbrev pub Program : Type 0 → Type 0 → Type 0
 Program S A = S → Ran S A
 

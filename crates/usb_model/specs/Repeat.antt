@@ -5,9 +5,10 @@ use mathlib.Core.Logic.{_≢_}
 use mathlib.Core.List.{List, _++_}
 use Prim.Native.Nat.{ℕ, _+_, _*_, _≤_}
 use lib.ListN.{length, take}
+use Rattle.usb_types.specs.Actions.{ActionLength}
 use Rattle.usb_types.specs.Answers.{haltNumber}
 use Rattle.usb_types.specs.declared.types.Halt.the-variants.{OutcomesSpent}
-use Rattle.usb_device.specs.Access.{write}
+use Rattle.usb_store.specs.Access.{write}
 use Rattle.usb_model.specs.Entry.{Lent, Left}
 use Rattle.usb_model.specs.Kept.{requestsIn}
 
@@ -22,15 +23,15 @@ pub record Repeated (lent : Lent) (left left′ : Left) : Type 0 where
   -- the actions that the call logs, from the start of the log on, and the requests among them
   pub actions : ℕ
   pub news : List ℕ
-  pub news-length : length news ≡ 16 * actions
+  pub news-length : length news ≡ ActionLength * actions
   pub log : left .log ≡ write (lent .log) 0 news
   pub requests : left .requests ≡ requestsIn actions news
   -- the repeat logs them too, and further ones behind them; there is room for all
   pub further : ℕ
   pub later : List ℕ
-  pub later-length : length later ≡ 16 * further
-  pub log′ : left′ .log ≡ write (left .log) (16 * actions) later
+  pub later-length : length later ≡ ActionLength * further
+  pub log′ : left′ .log ≡ write (left .log) (ActionLength * actions) later
   pub requests′ : left′ .requests ≡ left .requests + requestsIn further later
-  pub room : 16 * (actions + further) ≤ length (lent .log)
+  pub room : ActionLength * (actions + further) ≤ length (lent .log)
   -- so up to the stop the two logs agree
-  pub agree : take (16 * actions) (left′ .log) ≡ take (16 * actions) (left .log)
+  pub agree : take (ActionLength * actions) (left′ .log) ≡ take (ActionLength * actions) (left .log)

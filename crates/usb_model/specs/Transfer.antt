@@ -11,7 +11,7 @@ use Rattle.usb_types.specs.Actions.{packetSize, requestAction}
 use Rattle.usb_types.specs.declared.types.ErrorCode.the-variants.{Device}
 use Rattle.usb_types.specs.declared.types.Halt.the-variants.{GarbledOutcome, OutcomesSpent}
 use Rattle.usb_types.specs.declared.request.UsbDeviceRequest.{UsbDeviceRequest}
-use Rattle.usb_device.specs.Layout.{Number, Speed, Error, LastTransfer, MaxPacketSize0}
+use Rattle.usb_store.specs.Layout.{Number, Speed, Error, LastTransfer, MaxPacketSize0}
 pub use Rattle.usb_model.specs.declared.Buffer.{Buffer}
 use Rattle.usb_model.specs.Programs.{_>>=_, _>>_, return, throw, stop, look, change, succeed, when}
 use Rattle.usb_model.specs.World.{World, M, get, putBytes, putNumber, logRequest}

@@ -6,8 +6,9 @@ use lib.ListN.{length}
 use Rattle.usb_types.specs.Requests.{SetAddress, SetConfiguration, ToDevice, deviceRequest}
 use Rattle.usb_types.specs.Descriptors as Descriptors
 use Rattle.usb_types.specs.declared.types.ErrorCode.the-variants.{Device, BusFull}
-use Rattle.usb_device.specs.Layout.{Places, Number, Speed, Status, ConfigurationIndex, DeviceDescriptor, MaxPacketSize0, ConfigurationDescriptor, TotalLength, ConfigurationValue, Interfaces}
-use Rattle.usb_device.specs.Device.{High, Low, Default, Addressed, Configured, newDevice, firstUnused}
+use Rattle.usb_store.specs.Layout.{Places, Number, Speed, Status, ConfigurationIndex, DeviceDescriptor, MaxPacketSize0, ConfigurationDescriptor, TotalLength, ConfigurationValue, Interfaces}
+use Rattle.usb_store.specs.Values.{High, Low, Default, Addressed, Configured}
+use Rattle.usb_device.specs.Device.{newDevice, firstUnused}
 use Rattle.usb_model.specs.Programs.{if_then_else_, _>>=_, _>>_, return, skip, throw, look, succeed, when}
 use Rattle.usb_model.specs.World.{M, get, getBytes, getNumber, put, putBytes, microDelay}
 use Rattle.usb_model.specs.Transfer.{into, nowhere, usbControlMessage, control, usbGetDescriptor}

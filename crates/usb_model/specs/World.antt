@@ -3,9 +3,9 @@ use mathlib.Core.List.{List}
 use Prim.Native.Nat.{ℕ, _+_, _-_}
 use lib.Dec.{ltb}
 use lib.ListN.{length}
-use Rattle.usb_types.specs.Actions.{waitAction, frameIntervalAction}
+use Rattle.usb_types.specs.Actions.{waitAction, frameIntervalAction, ActionLength}
 use Rattle.usb_types.specs.declared.types.Halt.the-variants.{LogFull}
-use Rattle.usb_device.specs.Access.{write, byteAt, bytesAt, numberAt, withBytes, withByte, withNumber}
+use Rattle.usb_store.specs.Access.{write, byteAt, bytesAt, numberAt, withBytes, withByte, withNumber}
 use Rattle.usb_model.specs.declared.Progress.{Progress}
 use Rattle.usb_model.specs.Programs.{Program, _>>=_, _>>_, stop, look, change, when}
 
@@ -50,14 +50,14 @@ appended action w = record {
   store = w .store;
   log = write (w .log) (w .at .logged) action;
   outcomes = w .outcomes;
-  at = record { logged = w .at .logged + 16; taken = w .at .taken; requests = w .at .requests };
+  at = record { logged = w .at .logged + ActionLength; taken = w .at .taken; requests = w .at .requests };
 }
 
 -- "log full: an action is due and under 16 log bytes are left"
 unfoldable pub logAction : List ℕ → M (Unit {0})
 logAction action = do
   room ← look (λ w. length (w .log) - w .at .logged)
-  when (ltb room 16) (stop LogFull)
+  when (ltb room ActionLength) (stop LogFull)
   change (appended action)
 
 -- `micro_delay`, now an action

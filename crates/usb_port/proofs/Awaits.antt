@@ -6,8 +6,8 @@ use native.Mathlib.Omega.{arith}
 use lib.ListN.{length}
 use Rattle.usb_types.specs.declared.types.Answer.{Answer}
 use Rattle.usb_types.specs.declared.types.Answer.the-variants.{Ok}
-use Rattle.usb_device.specs.Layout.{PortStatus}
-use Rattle.usb_device.specs.Access.{numberAt}
+use Rattle.usb_store.specs.Layout.{PortStatus}
+use Rattle.usb_store.specs.Access.{numberAt}
 use Rattle.usb_model.specs.Programs.{_>>=_, _>>_, return, look}
 use Rattle.usb_model.specs.World.{World, M, getNumber, microDelay}
 use Rattle.usb_model.specs.Features.{C-PORT-RESET, bit}

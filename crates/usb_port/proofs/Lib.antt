@@ -1,2 +1,1 @@
 pub mod Awaits
-pub mod Children

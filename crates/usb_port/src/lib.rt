@@ -1,10 +1,5 @@
-// device/hub.rs: HubPortReset2, and the port at which a child stands.
+// device/hub.rs: HubPortReset2.
 use usb_device::hub::load_hub;
-use usb_device::store::CHILDREN;
-use usb_device::store::MAX_CHILDREN;
-use usb_device::store::PARENT;
-use usb_device::store::PORT_NUMBER;
-use usb_device::store::byte_at;
 use usb_hub::ports::has;
 use usb_hub::ports::status_of;
 use usb_hub::requests::C_PORT_RESET;
@@ -17,15 +12,14 @@ use usb_transfer::log::Step;
 use usb_transfer::log::micro_delay;
 use usb_types::types::Answer;
 use usb_types::types::ErrorCode;
-use usb_types::types::wide;
 ghost use mathlib.Core.Path.{_≡_};
-ghost use Prim.Native.Nat.{_≤_, _<_};
+ghost use Prim.Native.Nat.{_<_};
 ghost use lib.ListN.{length};
-ghost use Rattle.usb_device.specs.Layout.{Places, StoreLength, PortStatus, MaxChildren};
-ghost use Rattle.usb_device.specs.Access.{byteAt, numberAt};
+ghost use Rattle.usb_store.specs.Layout.{Places, StoreLength, PortStatus, Ports};
+ghost use Rattle.usb_store.specs.Access.{numberAt};
 ghost use Rattle.usb_model.specs.Hub as Model;
 ghost use Rattle.usb_transfer.specs.Runs.{Ready, Does};
-ghost use Rattle.usb_port.specs.Parts.{Sees, Finds, delayedStatus, resetPort};
+ghost use Rattle.usb_port.specs.Parts.{Sees, delayedStatus, resetPort};
 
 // The reads of a status: was it seen what they wait for? False where the answer is not Ok.
 pub struct Awaited {
@@ -33,14 +27,8 @@ pub struct Awaited {
     pub seen: bool,
 }
 
-// The port of a child, if it stands at one of this hub.
-pub enum ChildPort {
-    At(usize),
-    Nowhere,
-}
-
 pub fn port_status(store: &[u8], hub: usize, port: usize) -> u32
-    requires { ⌜ (length (now store) ≡ StoreLength) × (hub < Places) × (port < 10) ⌝ }
+    requires { ⌜ (length (now store) ≡ StoreLength) × (hub < Places) × (port < Ports) ⌝ }
     ensures { λ r. ⌜ r ≡ numberAt (now (store .entry)) hub (PortStatus port) 4 ⌝ }
 {
     status_of(load_hub(store, hub), port)
@@ -56,7 +44,7 @@ pub fn delayed_status(
     port: usize,
     microseconds: u32,
 ) -> Step
-    requires { ⌜ Ready store log outcomes at × (hub < Places) × (port < 10) ⌝ }
+    requires { ⌜ Ready store log outcomes at × (hub < Places) × (port < Ports) ⌝ }
     ensures { λ r. ⌜ Does (delayedStatus hub port microseconds) store log outcomes at r ⌝ }
 {
     let waited = micro_delay(log, at, microseconds);
@@ -77,7 +65,7 @@ fn await_reset(
     hub: usize,
     port: usize,
 ) -> Awaited
-    requires { ⌜ Ready store log outcomes at × (hub < Places) × (port < 10) ⌝ }
+    requires { ⌜ Ready store log outcomes at × (hub < Places) × (port < Ports) ⌝ }
     ensures { λ r. ⌜ Sees (Model.awaitReset 21 hub port) store log outcomes at r ⌝ }
 {
     let mut progress = at;
@@ -115,7 +103,7 @@ pub fn hub_port_reset2(
     hub: usize,
     port: usize,
 ) -> Step
-    requires { ⌜ Ready store log outcomes at × (hub < Places) × (port < 10) ⌝ }
+    requires { ⌜ Ready store log outcomes at × (hub < Places) × (port < Ports) ⌝ }
     ensures { λ r. ⌜ Does (Model.hubPortReset2 hub port) store log outcomes at r ⌝ }
 {
     let reset = reset_port(store, log, outcomes, at, hub, port);
@@ -130,17 +118,8 @@ pub fn hub_port_reset2(
     let Answer::Ok = answer else {
         return step;
     };
-    let reads_at = step.at;
-    let last = hub_change_port_feature(
-        store,
-        log,
-        outcomes,
-        reads_at,
-        hub,
-        C_PORT_RESET,
-        port,
-        false,
-    );
+    let next = step.at;
+    let last = hub_change_port_feature(store, log, outcomes, next, hub, C_PORT_RESET, port, false);
     let answer = last.answer;
     let Answer::Ok = answer else {
         return last;
@@ -164,7 +143,7 @@ fn reset_port(
     hub: usize,
     port: usize,
 ) -> Step
-    requires { ⌜ Ready store log outcomes at × (hub < Places) × (port < 10) ⌝ }
+    requires { ⌜ Ready store log outcomes at × (hub < Places) × (port < Ports) ⌝ }
     ensures { λ r. ⌜ Does (resetPort hub port) store log outcomes at r ⌝ }
 {
     let cleared = ignore(hub_change_port_feature(
@@ -183,43 +162,4 @@ fn reset_port(
     };
     let next = cleared.at;
     hub_change_port_feature(store, log, outcomes, next, hub, PORT_RESET, port, true)
-}
-
-// The port counted from 0 is tested against MaxChildren.
-pub fn port_of_child(store: &[u8], hub: usize, child: usize) -> ChildPort
-    requires { ⌜ (length (now store) ≡ StoreLength) × (hub < Places) × (child < Places) × (byteAt (now store) hub MaxChildren ≤ 10) ⌝ }
-    ensures { λ r. ⌜ Finds hub child (now (store .entry)) r ⌝ }
-{
-    if wide(byte_at(store, child, PARENT)) != hub + 1 {
-        return ChildPort::Nowhere;
-    }
-    let port = wide(byte_at(store, child, PORT_NUMBER));
-    if port >= wide(byte_at(store, hub, MAX_CHILDREN)) {
-        return ChildPort::Nowhere;
-    }
-    if wide(byte_at(store, hub, CHILDREN + port)) != child + 1 {
-        return ChildPort::Nowhere;
-    }
-    ChildPort::At(port)
-}
-
-pub fn hub_child_reset(
-    store: &mut [u8],
-    log: &mut [u8],
-    outcomes: &[u8],
-    at: Progress,
-    hub: usize,
-    child: usize,
-) -> Step
-    requires { ⌜ Ready store log outcomes at × (hub < Places) × (child < Places) × (byteAt (now store) hub MaxChildren ≤ 10) ⌝ }
-    ensures { λ r. ⌜ Does (Model.hubChildReset hub child) store log outcomes at r ⌝ }
-{
-    let found = port_of_child(store, hub, child);
-    match found {
-        ChildPort::Nowhere => Step {
-            answer: Answer::Error(ErrorCode::Argument),
-            at,
-        },
-        ChildPort::At(port) => hub_port_reset2(store, log, outcomes, at, hub, port),
-    }
 }

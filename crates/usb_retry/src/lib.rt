@@ -13,7 +13,7 @@ use usb_types::types::Answer;
 use usb_types::types::ErrorCode;
 ghost use mathlib.Core.Path.{_≡_};
 ghost use Prim.Native.Nat.{_<_};
-ghost use Rattle.usb_device.specs.Layout.{Places};
+ghost use Rattle.usb_store.specs.Layout.{Places, Ports};
 ghost use Rattle.usb_model.specs.Hub as Model;
 ghost use Rattle.usb_transfer.specs.Runs.{Ready, Does};
 ghost use Rattle.usb_port.specs.Parts.{Sees};
@@ -37,7 +37,7 @@ fn await_enabled(
     hub: usize,
     port: usize,
 ) -> Awaited
-    requires { ⌜ Ready store log outcomes at × (hub < Places) × (port < 10) ⌝ }
+    requires { ⌜ Ready store log outcomes at × (hub < Places) × (port < Ports) ⌝ }
     ensures { λ r. ⌜ Sees (Model.awaitEnabled 10 hub port) store log outcomes at r ⌝ }
 {
     let mut progress = at;
@@ -86,16 +86,14 @@ fn try_reset(
     hub: usize,
     port: usize,
 ) -> Awaited
-    requires { ⌜ Ready store log outcomes at × (hub < Places) × (port < 10) ⌝ }
+    requires { ⌜ Ready store log outcomes at × (hub < Places) × (port < Ports) ⌝ }
     ensures { λ r. ⌜ Sees (tryReset hub port) store log outcomes at r ⌝ }
 {
+    let seen = false;
     let reset = hub_change_port_feature(store, log, outcomes, at, hub, PORT_RESET, port, true);
     let answer = reset.answer;
     let Answer::Ok = answer else {
-        return Awaited {
-            step: reset,
-            seen: false,
-        };
+        return Awaited { step: reset, seen };
     };
     let next = reset.at;
     let reads = await_enabled(store, log, outcomes, next, hub, port);
@@ -112,12 +110,10 @@ fn try_reset(
                 answer: Answer::Error(ErrorCode::Device),
                 at,
             };
-            return Awaited { step, seen: false };
+            return Awaited { step, seen };
         }
-        return Awaited {
-            step,
-            seen: has(status, usb_hub::ports::PORT_ENABLE),
-        };
+        let seen = has(status, usb_hub::ports::PORT_ENABLE);
+        return Awaited { step, seen };
     }
     reads
 }
@@ -131,7 +127,7 @@ fn reset_tries(
     hub: usize,
     port: usize,
 ) -> Step
-    requires { ⌜ Ready store log outcomes at × (hub < Places) × (port < 10) ⌝ }
+    requires { ⌜ Ready store log outcomes at × (hub < Places) × (port < Ports) ⌝ }
     ensures { λ r. ⌜ Does (Model.resetTries 3 hub port) store log outcomes at r ⌝ }
 {
     let mut progress = at;
@@ -163,7 +159,7 @@ pub fn hub_port_reset(
     hub: usize,
     port: usize,
 ) -> Step
-    requires { ⌜ Ready store log outcomes at × (hub < Places) × (port < 10) ⌝ }
+    requires { ⌜ Ready store log outcomes at × (hub < Places) × (port < Ports) ⌝ }
     ensures { λ r. ⌜ Does (Model.hubPortReset hub port) store log outcomes at r ⌝ }
 {
     let tried = reset_tries(store, log, outcomes, at, hub, port);

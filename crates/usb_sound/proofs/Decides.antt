@@ -9,14 +9,17 @@ use native.Mathlib.Nat.{div-add-mod'}
 use native.Mathlib.Omega.{arith}
 use lib.ListN.{length, getD, drop, replicate, List·getD-eq-default}
 use lib.Seq.{getD-drop}
-use Rattle.usb_device.specs.Layout.{Places, PlaceLength, StoreLength, Used, Parent, Child}
-use Rattle.usb_device.specs.Access.{offset, byteAt}
+use Rattle.usb_store.specs.Layout.{Places, PlaceLength, StoreLength, Used, Parent, Child, Ports}
+use Rattle.usb_store.specs.Access.{offset, byteAt}
 use Rattle.usb_device.specs.Device.{firstUnused, firstUnusedFrom}
 use Rattle.usb_device.proofs.Free.{first-most, first-before, first-unused}
-use Rattle.usb_sound.specs.Sound.{Ports, IsUsed, IsChild, ParentFits, ChildOnce, Sound, Decides}
-use Rattle.usb_sound.specs.Test.{zeros, every, usedSound, markHubs, allSeen, treeSound, storeSound, sound}
-use Rattle.usb_sound.proofs.Tests.{below, eq-decides, as-decides, and-decides, zeros-decides, every-decides}
-use Rattle.usb_sound.proofs.Rules.{Place, place-decides, blank, place-of}
+use Rattle.usb_place.specs.Rules.{Decides}
+use Rattle.usb_place.specs.Test.{zeros, every, usedSound}
+use Rattle.usb_place.proofs.Tests.{below, eq-decides, as-decides, and-decides, zeros-decides, every-decides}
+use Rattle.usb_place.proofs.Rules.{Place, place-decides, blank}
+use Rattle.usb_sound.specs.Sound.{IsUsed, IsChild, ParentFits, ChildOnce, Sound}
+use Rattle.usb_sound.specs.Test.{markHubs, allSeen, treeSound, storeSound, sound}
+use Rattle.usb_sound.proofs.Rules.{place-of}
 use Rattle.usb_sound.proofs.Marks.{childByte, Good, Tree, tree-decides}
 
 -- what the test asks of a store with n used places in front

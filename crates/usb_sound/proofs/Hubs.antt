@@ -4,9 +4,9 @@ use mathlib.Core.Logic.{⊎-elim, _≢_}
 use mathlib.Core.List.{List}
 use Prim.Native.Nat.{ℕ, _-_, _<_}
 use native.Mathlib.Omega.{arith}
-use Rattle.usb_device.specs.Layout.{Places, PlaceLength, Used, Hub, Child}
-use Rattle.usb_device.specs.Access.{byteAt}
-use Rattle.usb_sound.specs.Sound.{Ports, Sound}
+use Rattle.usb_store.specs.Layout.{Places, PlaceLength, Used, Hub, Child, Ports}
+use Rattle.usb_store.specs.Access.{byteAt}
+use Rattle.usb_sound.specs.Sound.{Sound}
 
 -- the place c, a child of the place h: an index, above its hub, and used
 pub record Below (s : List ℕ) (h c : ℕ) : Type 0 where

@@ -10,12 +10,13 @@ use lib.Dec.{leb, ltb, eqb}
 use lib.ListN.{length, getD, set, replicate, length-set}
 use lib.Seq.{getD-set-same, getD-set-other}
 use borrow.Author.Tests.{eqb-true, eqb-false}
-use Rattle.usb_device.specs.Layout.{Places, Hub, Child}
-use Rattle.usb_device.specs.Access.{byteAt}
-use Rattle.usb_sound.specs.Sound.{Ports, IsChild, ParentFits, Decides}
+use Rattle.usb_store.specs.Layout.{Places, Hub, Child, Ports}
+use Rattle.usb_store.specs.Access.{byteAt}
+use Rattle.usb_place.specs.Rules.{Decides}
+use Rattle.usb_place.proofs.Tests.{no-false, same, below, eq-decides, le-decides, lt-decides, and-decides, every-decides, replicate-zero}
+use Rattle.usb_sound.specs.Sound.{IsChild, ParentFits}
 use Rattle.usb_sound.specs.Test.{Marked, marked, andThen, parentSound, markChild, markPorts, markHubs, allSeen, treeSound}
 use Rattle.usb_sound.proofs.Steps.{mark-none, mark-first}
-use Rattle.usb_sound.proofs.Tests.{no-false, same, below, eq-decides, le-decides, lt-decides, and-decides, every-decides, replicate-zero}
 use Rattle.usb_sound.proofs.Rules.{parent-decides}
 
 -- the child byte of a port

@@ -1,41 +1,13 @@
 -- A sound store, rule by rule (document 01, "A sound store: .."). Definitions only.
 use mathlib.Core.Path.{_≡_}
-use mathlib.Core.Bool.{Bool, true}
 use mathlib.Core.Logic.{_⊎_, _≢_}
 use mathlib.Core.List.{List, [], _∷_}
 use Prim.Native.Nat.{ℕ, _+_, _≤_, _<_}
 use lib.ListN.{length}
-use Rattle.usb_device.specs.Layout.{Places, PlaceLength, StoreLength, Used, Number, Speed, Status, PortNumber, Parent, Hub, Error, Child, MaxChildren}
-use Rattle.usb_device.specs.Access.{byteAt, numberAt}
-
--- x is a listed value
-abbrev pub OneOf : ℕ → List ℕ → Type 0
-OneOf x [] = ⊥
-OneOf x (y ∷ ys) = (x ≡ y) ⊎ OneOf x ys
-
--- UsbSpeed: High, Full, Low
-abbrev pub speeds : List ℕ
-speeds = 0 ∷ 1 ∷ 2 ∷ []
-
--- UsbDeviceStatus: Attached, Powered, Default, Addressed, Configured
-abbrev pub statuses : List ℕ
-statuses = 0 ∷ 1 ∷ 2 ∷ 3 ∷ 4 ∷ []
-
--- UsbTransferError: NoError, bits 1 to 9 from Stall to NotYetError, bit 31 Processing
-abbrev pub errors : List ℕ
-errors = 0 ∷ 2 ∷ 4 ∷ 8 ∷ 16 ∷ 32 ∷ 64 ∷ 128 ∷ 256 ∷ 512 ∷ 2147483648 ∷ []
-
--- the hub byte: no, without descriptor, with
-abbrev pub hubs : List ℕ
-hubs = 0 ∷ 1 ∷ 2 ∷ []
-
--- "ten children", one for each port
-abbrev pub Ports : ℕ
-Ports = 10
-
--- bytes first to last of a place are zero
-abbrev pub Zero : List ℕ → ℕ → ℕ → ℕ → Type 0
-Zero s p first last = (f : ℕ) → first ≤ f → f ≤ last → byteAt s p f ≡ 0
+use Rattle.usb_store.specs.Layout.{Places, PlaceLength, StoreLength, Used, Number, Speed, Status, PortNumber, Parent, Hub, Error, HubDescriptor, Child, MaxChildren, Ports}
+use Rattle.usb_store.specs.Access.{byteAt, numberAt}
+use Rattle.usb_store.specs.Values.{NoHub, WithoutDescriptor}
+use Rattle.usb_place.specs.Rules.{OneOf, speeds, statuses, errors, hubs, Zero}
 
 abbrev pub IsUsed : List ℕ → ℕ → Type 0
 IsUsed s p = (p < Places) × (byteAt s p Used ≡ 1)
@@ -74,7 +46,7 @@ pub record Sound (s : List ℕ) : Type 0 where
   -- number is 0 or place + 1
   pub number : (p : ℕ) → p < Places → OneOf (byteAt s p Number) (0 ∷ (p + 1) ∷ [])
   -- MaxChildren at most 10
-  pub max-children : (p : ℕ) → p < Places → byteAt s p MaxChildren ≤ 10
+  pub max-children : (p : ℕ) → p < Places → byteAt s p MaxChildren ≤ Ports
   -- children are used places
   pub children : (h q p : ℕ) → h < Places → q < Ports → IsChild s h q p → IsUsed s p
   -- place 0 is nobody's child
@@ -86,13 +58,8 @@ pub record Sound (s : List ℕ) : Type 0 where
   -- place 0's parent is 0
   pub root-parent : byteAt s 0 Parent ≡ 0
   -- hub 0 means bytes 43-106 are zero, hub 1 that 43-51 are
-  pub no-hub : (p : ℕ) → p < Places → byteAt s p Hub ≡ 0 → Zero s p 43 106
-  pub no-descriptor : (p : ℕ) → p < Places → byteAt s p Hub ≡ 1 → Zero s p 43 51
+  pub no-hub : (p : ℕ) → p < Places → byteAt s p Hub ≡ NoHub → Zero s p HubDescriptor MaxChildren
+  pub no-descriptor : (p : ℕ) → p < Places → byteAt s p Hub ≡ WithoutDescriptor → Zero s p HubDescriptor 51
   -- bytes 107-127 and 1,096-1,151 are zero
   pub gap : (p : ℕ) → p < Places → Zero s p 107 127
   pub tail : (p : ℕ) → p < Places → Zero s p 1096 1151
-
--- the answer r of a test decides P: it is true exactly where P holds
-pub record Decides (r : Bool) (P : Type 0) : Type 0 where
-  pub only : r ≡ true → P
-  pub wherever : P → r ≡ true

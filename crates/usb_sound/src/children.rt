@@ -1,18 +1,18 @@
 // The rules on children: one pass over all ports marks each child in an array of 32.
-use crate::place::count_at;
-use usb_device::store::CHILDREN;
-use usb_device::store::HUB;
-use usb_device::store::PARENT;
-use usb_device::store::PORT_NUMBER;
-use usb_device::store::PORTS;
-use usb_device::store::byte_at;
+use usb_place::count_at;
+use usb_store::CHILDREN;
+use usb_store::HUB;
+use usb_store::PARENT;
+use usb_store::PORT_NUMBER;
+use usb_store::PORTS;
+use usb_store::byte_at;
 ghost use mathlib.Core.Path.{_≡_};
 ghost use Prim.Native.Nat.{_-_, _≤_, _<_};
 ghost use lib.ListN.{length, getD};
 ghost use lib.Dec.{eqb};
-ghost use Rattle.usb_device.specs.Layout.{Places, StoreLength};
-ghost use Rattle.usb_sound.specs.Sound.{Ports};
-ghost use Rattle.usb_sound.specs.Test.{every, marked, parentSound, markChild, markPorts, markHubs, treeSound};
+ghost use Rattle.usb_store.specs.Layout.{Places, StoreLength, Ports};
+ghost use Rattle.usb_place.specs.Test.{every};
+ghost use Rattle.usb_sound.specs.Test.{marked, parentSound, markChild, markPorts, markHubs, treeSound};
 
 // The parent of p is 0, or the hub h with the port q.
 fn parent_sound(store: &[u8], p: usize, h: usize, q: usize) -> bool

@@ -1,23 +1,23 @@
 // The sound store (document 01, "A sound store: .."). All bytes from the first unused place on are zero, each place before it
 // is used and keeps the rules by itself, and their children are marked, so that each is seen exactly once.
 mod children;
-mod place;
 
 use children::tree_sound;
-use place::places_sound;
-use place::zero;
 use usb_device::device::first_unused;
-use usb_device::store::PARENT;
-use usb_device::store::PLACE_LEN;
-use usb_device::store::STORE_LEN;
-use usb_device::store::byte_at;
-use usb_device::store::fill_zero;
-use usb_device::store::memory_copy;
+use usb_place::places_sound;
+use usb_place::zero;
+use usb_store::PARENT;
+use usb_store::PLACE_LEN;
+use usb_store::STORE_LEN;
+use usb_store::byte_at;
+use usb_store::fill_zero;
+use usb_store::memory_copy;
 ghost use mathlib.Core.Path.{_≡_};
 ghost use Prim.Native.Nat.{_≤_};
 ghost use lib.ListN.{length};
-ghost use Rattle.usb_device.specs.Layout.{Places, StoreLength};
-ghost use Rattle.usb_sound.specs.Sound.{Sound, Decides};
+ghost use Rattle.usb_store.specs.Layout.{Places, StoreLength};
+ghost use Rattle.usb_place.specs.Rules.{Decides};
+ghost use Rattle.usb_sound.specs.Sound.{Sound};
 ghost use Rattle.usb_sound.specs.Test.{storeSound, sound};
 
 // The rules on a whole store, n being the first place that is not used.

@@ -6,9 +6,10 @@ use Rattle.usb_types.specs.Outcomes.{listed, errorWord, submitResults, resultOf
 use Rattle.usb_types.specs.Requests.{directionOf, directionBit, deviceRequest}
 use Rattle.usb_types.specs.Actions.{packetSize}
 use Rattle.usb_types.specs.Descriptors.{kindOf, isHubClass}
-use Rattle.usb_device.specs.Access.{byteAt, bytesAt, withBytes}
+use Rattle.usb_store.specs.Access.{byteAt, bytesAt, withBytes}
 use Rattle.usb_device.specs.Device.{newDevice, firstUnusedFrom}
-use Rattle.usb_sound.specs.Test.{oneOf, zeros, every, fieldsSound, hubSound, placeSound, usedSound, andThen, parentSound, markChild, markPorts, markHubs, allSeen, treeSound, storeSound, sound}
+use Rattle.usb_place.specs.Test.{oneOf, zeros, every, fieldsSound, hubSound, placeSound, usedSound}
+use Rattle.usb_sound.specs.Test.{andThen, parentSound, markChild, markPorts, markHubs, allSeen, treeSound, storeSound, sound}
 use Rattle.usb_model.specs.Programs.{_>>=_, _>>_, return, skip, throw, stop, look, change, succeed, attempt, ignore, when, each}
 use Rattle.usb_model.specs.World.{get, getBytes, getNumber, putBytes, put, putNumber, logAction, logRequest, microDelay, dwcUpdateHostFrameInterval}
 use Rattle.usb_model.specs.Features.{bit}

@@ -10,9 +10,9 @@ use lib.ListN.{length}
 use Rattle.usb_types.specs.declared.types.Halt.the-variants.{LogFull}
 use Rattle.usb_types.specs.declared.types.Answer.{Answer}
 use Rattle.usb_types.specs.declared.types.Answer.the-variants.{Ok, Stop}
-use Rattle.usb_device.specs.Access.{write}
+use Rattle.usb_store.specs.Access.{write}
 use Rattle.usb_model.specs.declared.Progress.{Progress}
-use Rattle.usb_model.specs.Programs.{Ran, done, fail, halt, on, _>>=_, _>>_, stop, skip, look, change, when, ran}
+use Rattle.usb_model.specs.Programs.{Ran, done, fail, halt, on, _>>=_, _>>_, stop, skip, look, change, when}
 use Rattle.usb_model.specs.World.{World, M, logAction, logRequest, appended, counted}
 use Rattle.usb_transfer.specs.Runs.{here, Fit, Ends, Room, Writes}
 use Rattle.usb_transfer.proofs.Steps.{NotOk, then-is, on-ended}

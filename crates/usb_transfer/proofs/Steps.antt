@@ -15,8 +15,8 @@ use Rattle.usb_types.specs.declared.types.ErrorCode.{ErrorCode}
 use Rattle.usb_types.specs.declared.types.Halt.{Halt}
 use Rattle.usb_types.specs.declared.types.Answer.{Answer}
 use Rattle.usb_types.specs.declared.types.Answer.the-variants.{Ok, Error, Stop}
-use Rattle.usb_device.specs.Access.{byteAt, bytesAt, numberAt, withBytes}
-use Rattle.usb_device.proofs.Fields.{with-length}
+use Rattle.usb_store.specs.Access.{byteAt, bytesAt, numberAt, withBytes}
+use Rattle.usb_store.proofs.Fields.{with-length}
 use Rattle.usb_model.specs.declared.Progress.{Progress}
 use Rattle.usb_model.specs.Programs.{Ran, done, fail, halt, on, _>>=_, _>>_, return, skip, throw, look, change, succeed, caught, attempt, when, each}
 use Rattle.usb_model.specs.World.{World, M, get, getBytes, getNumber, putBytes, put}

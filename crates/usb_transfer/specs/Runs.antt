@@ -7,7 +7,7 @@ use denote.Ref.{RefT, now}
 use denote.Triple.Both.{Both}
 use Rattle.usb_types.specs.declared.types.Answer.{Answer}
 use Rattle.usb_types.specs.declared.types.Answer.the-variants.{Ok, Error, Stop}
-use Rattle.usb_device.specs.Layout.{StoreLength}
+use Rattle.usb_store.specs.Layout.{StoreLength}
 use Rattle.usb_model.specs.declared.Progress.{Progress}
 use Rattle.usb_model.specs.Programs.{Ran, done, fail, halt}
 use Rattle.usb_model.specs.World.{World, M}
@@ -33,6 +33,15 @@ gave (Stop h) a w = halt h w
 pub record Ends {A : Type 0} (m : M A) (w : World) (a : Answer) (x : A) (v : World) : Type 0 where
   pub is : m w ≡ gave a x v
   pub fit : Fit v
+
+-- the same, with a fact on what it answered and gave
+pub record EndsSo {A : Type 0} (p : Type 0) (m : M A) (w : World) (a : Answer) (x : A) (v : World) : Type 0 where
+  pub ends : Ends m w a x v
+  pub so : p
+
+-- it ran m on the store, whatever log and outcomes are
+abbrev pub OnStore : {A : Type 0} → M A → List ℕ → Answer → A → List ℕ → Type 0
+OnStore m s a x s′ = (l o : List ℕ) (at : Progress) → Fit (here s l o at) → Ends m (here s l o at) a x (here s′ l o at)
 
 -- the first n data bytes of the outcome that stands at an index of the outcomes
 abbrev pub dataOf : List ℕ → ℕ → ℕ → List ℕ
@@ -85,3 +94,9 @@ abbrev pub Does : M (Unit {0}) → Lent → Lent → Lent → Progress → Step 
 Does m store log outcomes at r =
     Ends m (here (now (store .entry)) (now (log .entry)) (now (outcomes .entry)) at) (r .answer) tt
     (here (now (store .exit)) (now (log .exit)) (now (outcomes .entry)) (r .at))
+
+-- of a function that gives a value besides its step, with a fact on both
+abbrev pub DoesSo : {A : Type 0} → Type 0 → M A → Lent → Lent → Lent → Progress → Step → A → Type 0
+DoesSo p m store log outcomes at step x =
+    EndsSo p m (here (now (store .entry)) (now (log .entry)) (now (outcomes .entry)) at) (step .answer) x
+    (here (now (store .exit)) (now (log .exit)) (now (outcomes .entry)) (step .at))

@@ -1,6 +1,6 @@
 // The log: an action takes 16 bytes, and nothing of it is written where they are not left.
-use usb_device::store::memory_copy;
 use usb_model::Progress;
+use usb_store::memory_copy;
 use usb_types::pipe::frame_interval_action;
 use usb_types::pipe::wait_action;
 use usb_types::types::Answer;

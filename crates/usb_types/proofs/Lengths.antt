@@ -1,14 +1,10 @@
--- Every action has 16 bytes, and a setup packet 8. Assumes nothing.
+-- Every action has 16 bytes. Assumes nothing.
 use mathlib.Core.Path.{_≡_, refl}
 use Prim.Native.Nat.{ℕ}
 use lib.ListN.{length}
 use Rattle.usb_types.specs.declared.request.UsbDeviceRequest.{UsbDeviceRequest}
 use Rattle.usb_types.specs.declared.pipe.UsbPipeAddress.{UsbPipeAddress}
-use Rattle.usb_types.specs.Requests.{setupBytes}
 use Rattle.usb_types.specs.Actions.{requestAction, waitAction, frameIntervalAction}
-
-pub setup-length : (q : UsbDeviceRequest) → length (setupBytes q) ≡ 8
-setup-length q = refl
 
 pub request-length : (pipe : UsbPipeAddress) (q : UsbDeviceRequest) → length (requestAction pipe q) ≡ 16
 request-length pipe q = refl

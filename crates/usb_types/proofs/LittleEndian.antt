@@ -1,8 +1,8 @@
--- Little-endian numbers, once over the width: so many bytes, each below 256, and a number and its bytes give each other.
+-- Little-endian numbers, once over the width: so many bytes, each below 256, and they give the number back.
 -- Assumes nothing.
 use mathlib.Core.Path.{_≡_, refl, ap}
 use mathlib.Core.List.{List, [], _∷_}
-use Prim.Native.Nat.{ℕ, zero, suc, _+_, _*_, _/_, _%_, _^_, _<_}
+use Prim.Native.Nat.{ℕ, zero, suc, _*_, _/_, _%_, _^_, _<_}
 use native.Mathlib.Nat.{pow-suc, mod-eq-of-lt, div-lt-iff-lt-mul}
 use native.Mathlib.Omega.{arith}
 use lib.ListN.{length, getD}
@@ -27,13 +27,6 @@ pub from-below : (bs : List ℕ) → ((k : ℕ) → getD bs k 0 < 256) → fromL
 from-below [] small = omega arith
 from-below (b ∷ bs) small =
     omega (arith, pow-suc 256 (length bs), small 0, from-below bs (λ k. small (suc k)))
-
-pub le-from : (bs : List ℕ) → ((k : ℕ) → getD bs k 0 < 256) → littleEndian (length bs) (fromLittleEndian bs) ≡ bs
-le-from [] small = refl
-le-from (b ∷ bs) small =
-    let low : (b + 256 * fromLittleEndian bs) % 256 ≡ b = omega (arith, small 0) in
-    let high : (b + 256 * fromLittleEndian bs) / 256 ≡ fromLittleEndian bs = omega (arith, small 0) in
-    rw (low, high, le-from bs (λ k. small (suc k)))
 
 -- the last byte of a number needs no remainder
 pub last-byte : (m v : ℕ) → 0 < m → v < 256 * m → v / m % 256 ≡ v / m

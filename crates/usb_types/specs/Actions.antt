@@ -9,6 +9,10 @@ use Rattle.usb_types.specs.Requests.{setupBytes, directionBit}
 use Rattle.usb_types.specs.declared.request.UsbDeviceRequest.{UsbDeviceRequest}
 use Rattle.usb_types.specs.declared.pipe.UsbPipeAddress.{UsbPipeAddress}
 
+-- "16 bytes"
+abbrev pub ActionLength : ℕ
+ActionLength = 16
+
 -- "packet size (0 to 3 for 8, 16, 32, 64)", by the rule of types.rs
 unfoldable pub packetSize : ℕ → ℕ
 packetSize n = cond (ltb n 9) 0 (cond (ltb n 17) 1 (cond (ltb n 33) 2 3))

@@ -12,8 +12,8 @@ use Rattle.usb_types.specs.Descriptors.{kindOf}
 use Rattle.usb_types.specs.declared.types.ErrorCode.the-variants.{Device, GarbledConfiguration}
 use Rattle.usb_types.specs.declared.descriptors.DescriptorKind.{DescriptorKind}
 use Rattle.usb_types.specs.declared.descriptors.DescriptorKind.the-variants.{Interface, Endpoint, Other}
-use Rattle.usb_device.specs.Access.{write}
-use Rattle.usb_device.proofs.Writes.{length-write}
+use Rattle.usb_store.specs.Access.{write}
+use Rattle.usb_store.proofs.Writes.{length-write}
 use Rattle.usb_model.specs.Programs.{Program, _>>=_, _>>_, return, skip, throw, look, change, when}
 use Rattle.usb_model.specs.Walk.{Walk, MaxInterfaces, MaxEndpoints, InterfaceLength, EndpointLength, interfaceAt, endpointAt, interfaceDescriptor, endpointDescriptor, whole, descriptorOf, descriptor}
 use Rattle.usb_model.proofs.Accepted.{neither}

@@ -1,27 +1,21 @@
 // Replays the recorded answers of the original through the calls, and writes how many agreed, by entry point.
-mod head;
-mod replay;
-mod store;
-mod sum;
-mod tally;
-
-use head::HEAD_LEN;
-use head::WALK_HEAD_LEN;
-use head::asked_in;
-use head::fits;
-use head::recorded_in;
-use head::walk_fits;
-use head::walk_in;
 use libc::STDOUT_FILENO;
-use replay::replay;
-use replay::replay_walk;
-use tally::tally;
-use usb_device::store::STORE_LEN;
+use recorded::head::HEAD_LEN;
+use recorded::head::WALK_HEAD_LEN;
+use recorded::head::asked_in;
+use recorded::head::fits;
+use recorded::head::recorded_in;
+use recorded::head::walk_fits;
+use recorded::head::walk_in;
+use recorded::tally::tally;
+use replays::replay;
+use replays::replay_walk;
+use usb_store::STORE_LEN;
 ghost use mathlib.Core.Path.{_≡_};
 ghost use lib.ListN.{length};
-ghost use Rattle.usb_device.specs.Layout.{StoreLength};
-ghost use Rattle.vectors.specs.Counts.{OfWalk, SameLengths};
-ghost use Rattle.vectors.specs.Stores.{emptyStore};
+ghost use Rattle.usb_store.specs.Layout.{StoreLength};
+ghost use Rattle.recorded.specs.Stores.{emptyStore};
+ghost use Rattle.vectors.specs.Counts.{OfCall, OfWalk, OfFile, SameLengths};
 
 const WALK: usize = 7;
 
@@ -49,7 +43,7 @@ fn is_read(fd: i32, buffer: &mut [u8]) -> bool
 // Reads a call of calls.bin and replays it.
 fn next_call(fd: i32, store: &mut [u8]) -> Next
     requires { ⌜ length (now store) ≡ StoreLength ⌝ }
-    ensures { λ _. ⌜ length (now (store .exit)) ≡ StoreLength ⌝ }
+    ensures { λ r. ⌜ (length (now (store .exit)) ≡ StoreLength) × OfCall r ⌝ }
 {
     let mut head = [0; HEAD_LEN];
     let got = io::read_full(fd, &mut head);
@@ -124,7 +118,7 @@ fn write_number(before: &[u8], n: u32, after: &[u8])
 // Reads a call or a walk and replays it.
 fn next_record(walks: bool, fd: i32, store: &mut [u8]) -> Next
     requires { ⌜ length (now store) ≡ StoreLength ⌝ }
-    ensures { λ _. ⌜ length (now (store .exit)) ≡ StoreLength ⌝ }
+    ensures { λ r. ⌜ (length (now (store .exit)) ≡ StoreLength) × OfFile walks r ⌝ }
 {
     if walks {
         return next_walk(fd);

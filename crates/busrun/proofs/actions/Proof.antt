@@ -1,5 +1,4 @@
 -- `busrun::actions` meets its contract. The loop's invariant: what is left to count and what is counted are the whole. Assumes nothing.
-use borrow.Author.Needs.{needs}
 use mathlib.Core.Path.{_≡_}
 use Prim.Native.Nat.{_+_, _-_, _*_, _≤_}
 use native.Mathlib.Omega.{arith}

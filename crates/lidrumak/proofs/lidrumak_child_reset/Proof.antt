@@ -6,7 +6,7 @@ use Rattle.usb_model.specs.Entry.{Lent, isUnused, start, childReset}
 use Rattle.usb_model.specs.Kept.{LentBytes}
 use Rattle.usb_model.proofs.Accepted.{HubAccepted, hub-accepted}
 use Rattle.usb_transfer.specs.Runs.{here}
-use Rattle.lidrumak.specs.Replies.{lent}
+use Rattle.usb_entry.specs.Replies.{lent}
 use Rattle.lidrumak.proofs.Entries.{refused-call, accepted-call, accepts, bytes-of, first-world, started, used-inside}
 use Rattle.lidrumak.proofs.lidrumak_child_reset.Statement.{statement}
 use Rattle.lidrumak.proofs.lidrumak_child_reset.Tie as tie

@@ -7,7 +7,7 @@ use Rattle.usb_model.specs.Entry.{Lent, start, rootAttach}
 use Rattle.usb_model.specs.Kept.{LentBytes}
 use Rattle.usb_model.proofs.Accepted.{RootAccepted, root-accepted}
 use Rattle.usb_transfer.specs.Runs.{here}
-use Rattle.lidrumak.specs.Replies.{lent}
+use Rattle.usb_entry.specs.Replies.{lent}
 use Rattle.lidrumak.proofs.Entries.{refused-call, accepted-call, accepts, bytes-of, first-world, started}
 use Rattle.lidrumak.proofs.lidrumak_root_attach.Statement.{statement}
 use Rattle.lidrumak.proofs.lidrumak_root_attach.Tie as tie

@@ -9,7 +9,7 @@ use Rattle.usb_model.specs.Entry.{Lent, start, scan}
 use Rattle.usb_model.specs.Kept.{LentBytes}
 use Rattle.usb_model.proofs.Accepted.{HubAccepted, hub-accepted}
 use Rattle.usb_transfer.specs.Runs.{here}
-use Rattle.lidrumak.specs.Replies.{lent}
+use Rattle.usb_entry.specs.Replies.{lent}
 use Rattle.lidrumak.proofs.Entries.{refused-call, accepted-call, accepts, bytes-of, first-world, on-bus}
 use Rattle.lidrumak.proofs.lidrumak_scan.Statement.{statement}
 use Rattle.lidrumak.proofs.lidrumak_scan.Tie as tie

@@ -13,7 +13,7 @@ returns : tie.Need-returns
 unfolding startCheck portStatus
 returns c =
     let ended = not-ok _ (c .match .keys2) in
-    record { ends = got-number _ _ _ _ (next-ended _ _ (c .before .before .before .before .before .hub-port-get-status .ensures) ended); none = otherwise (Unit {0}) _ ended refl }
+    record { ends = got-number _ _ _ _ (next-ended _ _ (c .before .before .before .before .before .hub-port-get-status .ensures) ended); so = otherwise (Unit {0}) _ ended refl }
 
 returns-2 : tie.Need-returns-2
 unfolding startCheck portStatus
@@ -22,7 +22,7 @@ returns-2 c =
     let read = rw (c .before .before .before .before .before .before .before .before .before .before .before .before .before .before .enum-told .given .1) at (c .before .before .before .before .before .before .before .before .before .before .before .before .before .before .before .before .before .before .before .before .hub-port-get-status .ensures) in
     record {
       ends = got-number _ _ _ _ (next read (got-number-as _ _ _ _ (c .before .before .before .before .before .before .before .before .before .before .before .before .port-status2 .ensures) (got _ _ _ (next-ended _ _ (c .before .before .before .before .before .clear-changes .ensures) ended))));
-      none = otherwise (Unit {0}) _ ended refl;
+      so = otherwise (Unit {0}) _ ended refl;
     }
 
 load-hub-requires : tie.Need-load-hub-requires
@@ -44,7 +44,7 @@ returns-3 c =
     let cleared = rw ok at (c .before .before .before .before .before .before .before .before .before .clear-changes .ensures) in
     let changed = rw (c .before .before .before .before .before .before .before .before .before .before .before .before .before .before .byte-at .ensures, c .before .before .before .before .before .before .before .before .before .before .before .before .before .before .before .before .before .before .before .before .before .before .before .before .before .before .before .port-status .ensures) at (c .before .before .before .before .before .before .before .before .before .before .before .before .before .changed .ensures) in
     let dropped = rw (c .before .load-hub .ensures, child-at _ _ _ (c .before .before .before .before .before .before .before .before .before .before .before .before .before .before .before .before .before .before .before .before .before .before .before .before .before .before .before .before .before .before .before .before .pre .2)) at (c .dropped .ensures) in
-    rw ok (record { ends = found _ _ read _ (c .before .before .before .before .before .before .before .before .before .before .before .before .before .before .before .before .port-status2 .ensures) cleared _ dropped _ changed; none = tt })
+    rw ok (record { ends = found _ _ read _ (c .before .before .before .before .before .before .before .before .before .before .before .before .before .before .before .before .port-status2 .ensures) cleared _ dropped _ changed; so = tt })
 
 pub start-check-spec : {M : Type 1} → statement M
 start-check-spec =

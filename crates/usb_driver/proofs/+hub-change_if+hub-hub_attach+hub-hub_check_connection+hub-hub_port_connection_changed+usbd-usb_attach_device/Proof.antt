@@ -6,7 +6,6 @@ mod HubAttach
 mod HubCheckConnection
 mod HubPortConnectionChanged
 mod UsbAttachDevice
-use Prim.Native.Nat.{ℕ}
 use Rattle.usb_driver.proofs.hub.change_if.Reads as change-if
 use Rattle.usb_driver.proofs.+hub-change_if+hub-hub_attach+hub-hub_check_connection+hub-hub_port_connection_changed+usbd-usb_attach_device.Lts-hub-change_if as change-if-lts
 use Rattle.usb_driver.proofs.hub.hub_attach.Reads as hub-attach

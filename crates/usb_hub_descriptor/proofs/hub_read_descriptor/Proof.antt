@@ -46,7 +46,7 @@ use Rattle.usb_model.proofs.Progress as Pr
 use Rattle.usb_model.proofs.Progress.Laws as Pr′
 use Rattle.usb_model.proofs.Buffer as Bu
 use Rattle.usb_model.proofs.Buffer.Laws as Bu′
-use Rattle.usb_device.specs.Layout.{Places}
+use Rattle.usb_store.specs.Layout.{Places}
 use Rattle.usb_model.specs.World.{World, M as Prog}
 use Rattle.usb_model.specs.Programs.{_>>=_}
 use Rattle.usb_model.specs.Transfer.{nowhere}

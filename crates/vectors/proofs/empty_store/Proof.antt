@@ -1,6 +1,6 @@
 -- `vectors::empty_store` meets its contract. Assumes nothing.
 use mathlib.Core.Path.{refl}
-use Rattle.vectors.specs.Stores.{emptyStore}
+use Rattle.recorded.specs.Stores.{emptyStore}
 use Rattle.vectors.proofs.empty_store.Statement.{statement}
 use Rattle.vectors.proofs.empty_store.Tie as tie
 

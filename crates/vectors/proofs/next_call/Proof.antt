@@ -1,12 +1,15 @@
--- `vectors::next_call` is safe and ends. Assumes nothing.
-use mathlib.Core.Path.{sym, _∙_}
+-- `vectors::next_call` meets its contract. Assumes nothing.
+use mathlib.Core.Path.{_≡_, sym, _∙_}
 use Prim.Native.Nat.{_*_, _≤_}
 use native.Mathlib.Omega.{arith}
 use borrow.Author.Tests.{not-false}
 use lib.ListN.{length}
 use borrow.Author.Needs.{needs}
-use Rattle.vectors.proofs.Buffers.{part-long, back-most, back-long, back-enough}
-use Rattle.vectors.proofs.Heads.{fitting}
+use Rattle.vectors.specs.Counts.{OfCall}
+use Rattle.vectors.specs.declared.Next.{Next}
+use Rattle.vectors.specs.declared.Next.the-variants.{End}
+use Rattle.replays.proofs.Buffers.{part-long, back-most, back-long, back-enough}
+use Rattle.recorded.proofs.Heads.{fitting}
 use Rattle.vectors.proofs.next_call.Statement.{statement}
 use Rattle.vectors.proofs.next_call.Tie as tie
 
@@ -45,20 +48,27 @@ replay-requires c κs = record {
   enough = back-enough _ (c .before .before .before .before .before .before .before .before .before .before .before .before .is-read .last .1 .0) _ (c .before .before .before .before .before .before .before .before .before .before .before .before .is-read .kept .1 .0) (edits-fit (c .before .before .before .before .before .before .before .before .before .before .before .before .before .before));
 }
 
+returns : tie.Need-returns-6
+returns c = (c .before .before .before .replay .kept .1 .1 .0 ∙ c .before .before .before .before .before .before .before .before .before .before .before .before .before .before .before .before .before .before .before .before .before .before .before .before .before .before .before .before .before .before .pre, fitting _ (sym (c .before .before .before .before .before .before .before .before .before .before .before .before .before .before .before .before .before .before .before .before .before .fits2 .ensures) ∙ not-false _ (c .before .before .before .before .before .before .before .before .before .before .before .before .before .before .before .before .before .before .before .before .if3 .left)) .entry)
+
+-- nothing was read
+ended : {r : Next} → r ≡ End → OfCall r
+ended e = rw e tt
+
 pub next-call-spec : {M : Type 1} → statement M
 next-call-spec =
     tie.close
     (tie.spec
     (λ c. search needs)
     (λ c κs. search needs)
+    (λ c. (search needs, tt))
+    (λ c κs. search needs)
+    (λ c. (search needs, ended (c .garbled .ensures)))
     (λ c. search needs)
     (λ c κs. search needs)
-    (λ c. search needs)
-    (λ c. search needs)
     (λ c κs. search needs)
     (λ c κs. search needs)
-    (λ c κs. search needs)
-    (λ c. search needs)
+    (λ c. (search needs, ended (c .garbled2 .ensures)))
     (λ c κs. search needs)
     (λ c. search needs)
     (λ c. search needs)
@@ -66,13 +76,13 @@ next-call-spec =
     slice-aggregate-is-read
     (λ c κs. search needs)
     (λ c κs. search needs)
-    (λ c. search needs)
+    (λ c. (search needs, ended (c .garbled3 .ensures)))
     (λ c κs. search needs)
     array-borrow-prefix-outcomes
     slice-aggregate-is-read-2
     (λ c κs. search needs)
     (λ c κs. search needs)
-    (λ c. search needs)
+    (λ c. (search needs, ended (c .garbled4 .ensures)))
     (λ c. search needs)
     (λ c κs. search needs)
     array-share-prefix-edits
@@ -82,4 +92,4 @@ next-call-spec =
     replay-requires
     (λ c. search needs)
     (λ c. search needs)
-    (λ c. c .before .before .before .replay .kept .1 .1 .0 ∙ c .before .before .before .before .before .before .before .before .before .before .before .before .before .before .before .before .before .before .before .before .before .before .before .before .before .before .before .before .before .before .pre))
+    returns)

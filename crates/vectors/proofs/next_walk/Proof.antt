@@ -8,8 +8,8 @@ use borrow.Author.Needs.{needs}
 use Rattle.vectors.specs.Counts.{OfWalk}
 use Rattle.vectors.specs.declared.Next.{Next}
 use Rattle.vectors.specs.declared.Next.the-variants.{End}
-use Rattle.vectors.proofs.Buffers.{part-long, back-most, back-long}
-use Rattle.vectors.proofs.Heads.{walk-fitting}
+use Rattle.replays.proofs.Buffers.{part-long, back-most, back-long}
+use Rattle.recorded.proofs.Heads.{walk-fitting}
 use Rattle.vectors.proofs.next_walk.Statement.{statement}
 use Rattle.vectors.proofs.next_walk.Tie as tie
 

@@ -4,8 +4,8 @@ use borrow.Author.Needs.{needs}
 use mathlib.Core.Path.{refl}
 use mathlib.Core.List.{List}
 use Prim.Native.Nat.{ℕ, _≤_, _-_}
-use Rattle.usb_device.specs.Layout.{PortStatus, Child}
-use Rattle.usb_device.specs.Access.{byteAt, numberAt}
+use Rattle.usb_store.specs.Layout.{PortStatus, Child}
+use Rattle.usb_store.specs.Access.{byteAt, numberAt}
 use Rattle.usb_device.specs.Ports.{hubAt}
 use Rattle.usb_device.proofs.HubRecord.{Filled, filled-none, filled-more, filled-all}
 use Rattle.usb_device.proofs.hub.load_hub.Statement.{statement}

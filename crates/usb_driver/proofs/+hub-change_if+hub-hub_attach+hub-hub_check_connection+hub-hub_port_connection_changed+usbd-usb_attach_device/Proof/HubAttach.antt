@@ -1,22 +1,20 @@
 -- What `hub_attach` is left to show. The loop's invariant: the ports that are left, run from here, are all ports run from where the loop began. Assumes nothing.
-use Prim.Native.Nat.{ℕ, _+_, _*_, _-_, _≤_, _<_}
+use Prim.Native.Nat.{ℕ, _-_, _<_}
 use borrow.Author.Needs.{needs}
-use mathlib.Core.Path.{_≡_, refl, sym, ap, _∙_}
+use mathlib.Core.Path.{refl, sym, ap, _∙_}
 use native.Mathlib.Omega.{arith}
 use native.Mathlib.Nat.{le-refl}
 use Rattle.usb_transfer.specs.declared.log.Step.{Step}
-use Rattle.usb_device.specs.Device.{freePlaces}
 use Rattle.usb_transfer.specs.Runs.{here}
-use Rattle.usb_transfer.proofs.Steps.{not-ok, bound, bound-ended, next, next-ended, got-as, done-if, done-unless, going, ends-with, each-starts, each-last, each-ended, each-goes}
+use Rattle.usb_transfer.proofs.Steps.{not-ok, next, next-ended, got-as, going, ends-with, each-starts, each-last, each-ended, each-goes}
 use Rattle.usb_hub.proofs.Parts.{ignores}
-use Rattle.usb_driver.proofs.Reaches.{enumerated-after, ready-after, started-after, changed-after, checked-after, at-fuel, Ports}
-use Rattle.usb_driver.proofs.Lines.{ends-as, attaches, hub-attaches, changes, checks}
-use Rattle.usb_driver.proofs.Births.{born}
+use Rattle.usb_driver.proofs.Reaches.{ready-after, checked-after, PortsChecked}
+use Rattle.usb_driver.proofs.Lines.{ends-as, hub-attaches}
 use Rattle.usb_driver.proofs.hub.hub_attach.Reads as hub-attach
 use Rattle.usb_driver.proofs.+hub-change_if+hub-hub_attach+hub-hub_check_connection+hub-hub_port_connection_changed+usbd-usb_attach_device.Lts-hub-hub_attach as hub-attach-lts
 use Rattle.usb_driver.proofs.hub.hub_check_connection.Reads as hub-check-connection
-use Rattle.usb_attach.proofs.hub.ready_hub.Reads as ready-hub-reads
-use Rattle.usb_device.proofs.store.byte_at.Reads as byte-at-reads
+use Rattle.usb_hub_attach.proofs.ready_hub.Reads as ready-hub-reads
+use Rattle.usb_store.proofs.byte_at.Reads as byte-at-reads
 use Rattle.usb_hub.proofs.requests.ignore.Reads as ignore-reads
 use Rattle.usb_types.proofs.types.wide.Reads as wide-reads
 use Rattle.usb_driver.proofs.+hub-change_if+hub-hub_attach+hub-hub_check_connection+hub-hub_port_connection_changed+usbd-usb_attach_device.Proof.Measures.{hub-attach-at, hub-check-connection-below}
@@ -27,7 +25,7 @@ module _ (t : ℕ) where
 
   abbrev pub Inv-loop : hub-attach-lts.InvT-loop
   Inv-loop store₀ log₀ outcomes hub progress₀ count port₀ store log progress port =
-      Ports hub count port (here store₀ log₀ outcomes progress₀) (here store log outcomes progress)
+      PortsChecked hub count port (here store₀ log₀ outcomes progress₀) (here store log outcomes progress)
 
   abbrev pub μ-loop : hub-attach-lts.MeasureT-loop
   μ-loop store₀ log₀ outcomes hub progress₀ count port₀ store log progress port = count - port

@@ -1,5 +1,5 @@
 -- The measures: eight for each free place, and a stage. A place is taken on the way from a connection change to an attach. Assumes nothing.
-use Prim.Native.Nat.{ℕ, _+_, _*_, _-_, _<_}
+use Prim.Native.Nat.{ℕ, _+_, _*_, _<_}
 use borrow.Fn.Kinds.{In}
 use borrow.Fn.PlainCycle.{Measures, is, falls, and}
 use Rattle.usb_driver.proofs.hub.change_if.Reads as change-if

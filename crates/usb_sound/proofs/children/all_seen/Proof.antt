@@ -5,8 +5,8 @@ use mathlib.Core.Path.{_≡_, refl, sym, _∙_}
 use Prim.Native.Nat.{ℕ, _-_}
 use lib.Dec.{eqb}
 use lib.ListN.{getD}
-use Rattle.usb_sound.specs.Test.{every}
-use Rattle.usb_sound.proofs.Steps.{every-turn, every-end}
+use Rattle.usb_place.specs.Test.{every}
+use Rattle.usb_place.proofs.Steps.{every-turn, every-end}
 use Rattle.usb_sound.proofs.children.all_seen.Statement.{statement}
 use Rattle.usb_sound.proofs.children.all_seen.Tie as tie
 

@@ -4,7 +4,7 @@ use borrow.Author.Needs.{needs}
 use borrow.Author.Tests.{not-true, not-false}
 use mathlib.Core.Path.{_≡_, refl, sym, _∙_}
 use Prim.Native.Nat.{_≤_, _-_}
-use Rattle.usb_sound.specs.Sound.{Ports}
+use Rattle.usb_store.specs.Layout.{Ports}
 use Rattle.usb_sound.specs.Test.{markPorts}
 use Rattle.usb_sound.proofs.Steps.{ports-turn, ports-end}
 use Rattle.usb_sound.proofs.children.mark_ports.Statement.{statement}

@@ -1,0 +1,4 @@
+pub mod Bytes
+pub mod Heads
+pub mod Sequences
+pub mod Counting

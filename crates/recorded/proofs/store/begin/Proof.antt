@@ -1,0 +1,14 @@
+-- `recorded::store::begin` meets its contract. Assumes nothing.
+use borrow.Author.Needs.{needs}
+use Rattle.recorded.proofs.Sequences.{begins, goes-on}
+use Rattle.recorded.proofs.store.begin.Statement.{statement}
+use Rattle.recorded.proofs.store.begin.Tie as tie
+
+returns : tie.Need-returns
+returns c = begins _ _ _ (c .before .before .before .before .if1 .taken) (c .before .before .before .before .before .before .before .pre) (c .before .before .fill-zero .ensures)
+
+returns-2 : tie.Need-returns-2
+returns-2 c = goes-on _ _ (c .if1 .left)
+
+pub begin-spec : {M : Type 1} → statement M
+begin-spec = tie.close (tie.spec (λ c κs. search needs) (λ c. search needs) returns returns-2)

@@ -1,0 +1,14 @@
+-- `recorded::store::carry` meets its contract. Assumes nothing.
+use borrow.Author.Needs.{needs}
+use Rattle.recorded.proofs.Sequences.{carried, stays}
+use Rattle.recorded.proofs.store.carry.Statement.{statement}
+use Rattle.recorded.proofs.store.carry.Tie as tie
+
+returns : tie.Need-returns
+returns c = carried _ _ _ _ (c .before .before .before .before .if1 .taken) (c .before .before .before .before .before .before .before .before .pre) (c .before .before .resize .ensures)
+
+returns-2 : tie.Need-returns-2
+returns-2 c = stays _ _ _ (c .if1 .left)
+
+pub carry-spec : {M : Type 1} → statement M
+carry-spec = tie.close (tie.spec (λ c κs. search needs) (λ c. search needs) returns returns-2)

@@ -1,0 +1,48 @@
+-- `recorded::store::edit` meets its contract. The loop's invariant: the edits that are left, on the store as it is, make the whole. Assumes nothing.
+use borrow.Author.Needs.{needs}
+use mathlib.Core.Path.{_≡_, refl, sym, ap, _∙_}
+use Prim.Native.Nat.{_-_, _*_, _≤_}
+use native.Mathlib.Omega.{arith}
+use lib.ListN.{length, drop, length-set}
+use Rattle.recorded.specs.Stores.{edited}
+use Rattle.recorded.proofs.Sequences.{edit-start, edit-again, edit-end}
+use Rattle.recorded.proofs.store.edit.Statement.{statement}
+use Rattle.recorded.proofs.store.edit.Tie as tie
+
+abbrev Inv-loop : tie.InvT-loop
+Inv-loop store₀ edits n k₀ store k =
+    (k ≤ n) × (edited (n - k) (drop (k * 5) edits) store ≡ edited n edits store₀) × (length store ≡ length store₀)
+
+abbrev μ-loop : tie.MeasureT-loop
+μ-loop store₀ edits n k₀ store k = n - k
+
+loop-holds : tie.Need-loop-holds Inv-loop μ-loop
+loop-holds c = (omega arith, edit-start _ _ _, refl)
+
+loop-again : tie.Need-loop-again Inv-loop μ-loop
+loop-again c =
+    let head = c .before .before .before .before .before .before .before .loop in
+    let put = c .before .before .put .ensures in
+    (omega (arith, c .before .before .before .before .before .before .loop-test .taken), edit-again _ _ _ _ _ _ _ (c .before .before .before .before .before .before .loop-test .taken) (c .before .before .before .before .before .u32-at .ensures) put (head .inv .1), ap length put ∙ simp (length-set, head .inv .2))
+
+returns : tie.Need-returns Inv-loop μ-loop
+returns c = sym (edit-end _ _ _ _ (c .loop-test .left)) ∙ c .before .loop .inv .1
+
+pub edit-spec : {M : Type 1} → statement M
+edit-spec =
+    tie.close
+    (tie.spec
+    Inv-loop
+    μ-loop
+    loop-holds
+    (λ c. search needs)
+    (λ c κs. search needs)
+    (λ c. search needs)
+    (λ c. search needs)
+    (λ c. search needs)
+    (λ c κs. search needs)
+    (λ c. search needs)
+    (λ c. search needs)
+    loop-again
+    (λ c. search needs)
+    returns)

@@ -1,0 +1,5 @@
+pub mod Sums
+pub mod Numbers
+pub mod Heads
+pub mod Stores
+pub mod Counts

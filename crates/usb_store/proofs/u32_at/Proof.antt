@@ -1,0 +1,32 @@
+-- `usb_store::u32_at` meets its contract. Assumes nothing.
+use borrow.Author.Needs.{needs}
+use native.Mathlib.Omega.{arith}
+use Rattle.usb_store.proofs.Fields.{number-4}
+use Rattle.usb_store.proofs.u32_at.Statement.{statement}
+use Rattle.usb_store.proofs.u32_at.Tie as tie
+
+returns : tie.Need-returns
+returns c = omega (arith, number-4 _ _ _ (c .before .before .before .before .before .before .before .before .before .pre))
+
+pub u32-at-spec : {M : Type 1} → statement M
+u32-at-spec =
+    tie.close
+    (tie.spec
+    (λ c κs. search needs)
+    (λ c κs. search needs)
+    (λ c. search needs)
+    (λ c κs. search needs)
+    (λ c κs. search needs)
+    (λ c. search needs)
+    (λ c κs. search needs)
+    (λ c κs. search needs)
+    (λ c. search needs)
+    (λ c κs. search needs)
+    (λ c κs. search needs)
+    (λ c. search needs)
+    (λ c. search needs)
+    (λ c. search needs)
+    (λ c. search needs)
+    (λ c. search needs)
+    (λ c. search needs)
+    returns)

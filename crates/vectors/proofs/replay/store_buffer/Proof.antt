@@ -1,9 +1,0 @@
--- `vectors::replay::store_buffer` meets its contract. Assumes nothing.
-use mathlib.Core.Path.{refl}
-use Rattle.vectors.specs.Replays.{storeBuffer}
-use Rattle.vectors.proofs.replay.store_buffer.Statement.{statement}
-use Rattle.vectors.proofs.replay.store_buffer.Tie as tie
-
-pub store-buffer-spec : {M : Type 1} → statement M
-unfolding storeBuffer
-store-buffer-spec = tie.close (tie.spec (λ c. refl))
