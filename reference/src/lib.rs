@@ -24,6 +24,7 @@ pub mod stand_ins;
 pub use never_reached::shutdown;
 
 pub mod actions;
+pub mod arguments;
 pub mod bench;
 pub mod call;
 pub mod check_sum;

@@ -7,6 +7,7 @@ use std::process::ExitCode;
 use std::time::Instant;
 
 use comparison::histories::{run, Counts, Grid};
+use reference::arguments::numbers;
 use reference::call::Entry;
 use reference::outside::Outside;
 
@@ -14,12 +15,7 @@ const CALLS: u64 = 200_000;
 const SEED: u64 = 1;
 
 fn main() -> ExitCode {
-    let mut arguments = std::env::args().skip(1);
-    let mut number = |default| match arguments.next() {
-        Some(text) => text.parse().expect("a number"),
-        None => default,
-    };
-    let (calls, seed) = (number(CALLS), number(SEED));
+    let [calls, seed] = numbers([CALLS, SEED]);
     if cfg!(not(have_original)) {
         println!("{}", reference::original_missing());
         println!("the port is held to what document 01 says of every call");

@@ -8,6 +8,7 @@ use std::time::Instant;
 
 use comparison::descriptors::any_descriptors;
 use comparison::{original, port};
+use reference::arguments::numbers;
 use reference::generator::prng::Prng;
 use reference::layout::RECORD_LENGTH;
 use reference::outside::Outside;
@@ -21,12 +22,7 @@ const SEED: u64 = 1;
 type Counts = BTreeMap<(Option<Outside>, Reverse<i32>), u64>;
 
 fn main() -> ExitCode {
-    let mut arguments = std::env::args().skip(1);
-    let mut number = |default| match arguments.next() {
-        Some(text) => text.parse().expect("a number"),
-        None => default,
-    };
-    let (walks, seed) = (number(WALKS), number(SEED));
+    let [walks, seed] = numbers([WALKS, SEED]);
     if cfg!(not(have_original)) {
         println!("{}", reference::original_missing());
         println!("the port is compared with the rules alone");

@@ -3,13 +3,12 @@ use libc::STDIN_FILENO;
 use libc::STDOUT_FILENO;
 use lidrumak::lidrumak_root_attach;
 use usb_store::STORE_LEN;
+use usb_types::pipe::ACTION_LEN;
 ghost use mathlib.Core.Path.{_≡_};
 ghost use Prim.Native.Nat.{_≤_};
 ghost use lib.ListN.{length, take, replicate};
 ghost use Rattle.io.specs.Counts.{Counts};
 ghost use Rattle.busrun.specs.Run.{LogLength, actionsIn, busrun};
-
-const ACTION_LEN: usize = 16;
 
 const MAX_ACTIONS: usize = 4096;
 

@@ -1,4 +1,5 @@
 // The head of a recorded call and of a recorded walk (crates/vectors/README.md).
+use usb_store::wide;
 ghost use mathlib.Core.Path.{_≡_};
 ghost use Prim.Native.Nat.{_+_, _≤_, _<_};
 ghost use lib.ListN.{length};
@@ -42,12 +43,6 @@ pub struct RecordedWalk {
     pub record_len: usize,
     pub answer: i32,
     pub record_sum: u32,
-}
-
-pub fn wide(b: u8) -> u32
-    ensures { λ r. ⌜ (r ≡ b) × (r < 256) ⌝ }
-{
-    b as u32
 }
 
 // A number of 4 bytes.

@@ -1,5 +1,5 @@
 // The check sum of the recorded bytes, Adler-32.
-use crate::head::wide;
+use usb_store::wide;
 ghost use mathlib.Core.Path.{_≡_};
 ghost use Rattle.recorded.specs.Sums.{adler as Sums·adler};
 

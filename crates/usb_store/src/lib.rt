@@ -109,7 +109,7 @@ pub fn bytes_at(store: &[u8], place: usize, field: usize, n: usize) -> &[u8]
     &store[start..end]
 }
 
-fn wide(b: u8) -> u32
+pub fn wide(b: u8) -> u32
     ensures { λ r. ⌜ (r ≡ b) × (r < 256) ⌝ }
 {
     b as u32

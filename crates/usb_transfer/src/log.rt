@@ -1,14 +1,13 @@
 // The log: an action takes 16 bytes, and nothing of it is written where they are not left.
 use usb_model::Progress;
 use usb_store::memory_copy;
+use usb_types::pipe::ACTION_LEN;
 use usb_types::pipe::frame_interval_action;
 use usb_types::pipe::wait_action;
 use usb_types::types::Answer;
 use usb_types::types::Halt;
 ghost use Rattle.usb_model.specs.World.{logAction, logRequest, microDelay, dwcUpdateHostFrameInterval};
 ghost use Rattle.usb_transfer.specs.Runs.{Room, Logs};
-
-const ACTION_LEN: usize = 16;
 
 // What a function of the driver answers, and how far the call has come.
 pub struct Step {

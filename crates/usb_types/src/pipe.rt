@@ -4,6 +4,8 @@ use crate::request::direction_bit;
 ghost use mathlib.Core.Path.{_≡_};
 ghost use Rattle.usb_types.specs.Actions.{requestAction, waitAction, frameIntervalAction};
 
+pub const ACTION_LEN: usize = 16;
+
 // What an action shows of UsbPipeAddress besides the direction.
 pub struct UsbPipeAddress {
     pub device: u8,
@@ -11,7 +13,7 @@ pub struct UsbPipeAddress {
     pub max_size: u8,
 }
 
-pub fn request_action(pipe: UsbPipeAddress, request: UsbDeviceRequest) -> [u8; 16]
+pub fn request_action(pipe: UsbPipeAddress, request: UsbDeviceRequest) -> [u8; ACTION_LEN]
     ensures { λ r. ⌜ r ≡ requestAction pipe request ⌝ }
 {
     [
@@ -34,7 +36,7 @@ pub fn request_action(pipe: UsbPipeAddress, request: UsbDeviceRequest) -> [u8; 1
     ]
 }
 
-pub fn wait_action(microseconds: u32) -> [u8; 16]
+pub fn wait_action(microseconds: u32) -> [u8; ACTION_LEN]
     ensures { λ r. ⌜ r ≡ waitAction microseconds ⌝ }
 {
     [
@@ -57,7 +59,7 @@ pub fn wait_action(microseconds: u32) -> [u8; 16]
     ]
 }
 
-pub fn frame_interval_action() -> [u8; 16]
+pub fn frame_interval_action() -> [u8; ACTION_LEN]
     ensures { λ r. ⌜ r ≡ frameIntervalAction ⌝ }
 {
     [3, 0, 0, 0, 0, 0, 0, 0, 0, 0, 0, 0, 0, 0, 0, 0]
