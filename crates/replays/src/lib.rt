@@ -1,4 +1,6 @@
 // A recorded call or walk, run on slices.
+pub mod file;
+
 use lidrumak::lidrumak_child_check;
 use lidrumak::lidrumak_child_reset;
 use lidrumak::lidrumak_configuration_walk;

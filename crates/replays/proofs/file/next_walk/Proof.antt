@@ -1,17 +1,17 @@
--- `vectors::next_walk` is safe and ends. Assumes nothing.
+-- `replays::file::next_walk` is safe and ends. Assumes nothing.
 use mathlib.Core.Path.{_≡_, refl, sym, _∙_}
 use Prim.Native.Nat.{_≤_}
 use native.Mathlib.Omega.{arith}
 use borrow.Author.Tests.{not-false}
 use lib.ListN.{length}
 use borrow.Author.Needs.{needs}
-use Rattle.vectors.specs.Counts.{OfWalk}
-use Rattle.vectors.specs.declared.Next.{Next}
-use Rattle.vectors.specs.declared.Next.the-variants.{End}
+use Rattle.replays.specs.Files.{OfWalk}
+use Rattle.replays.specs.declared.file.Next.{Next}
+use Rattle.replays.specs.declared.file.Next.the-variants.{End}
 use Rattle.replays.proofs.Buffers.{part-long, back-most, back-long}
 use Rattle.recorded.proofs.Heads.{walk-fitting}
-use Rattle.vectors.proofs.next_walk.Statement.{statement}
-use Rattle.vectors.proofs.next_walk.Tie as tie
+use Rattle.replays.proofs.file.next_walk.Statement.{statement}
+use Rattle.replays.proofs.file.next_walk.Tie as tie
 
 -- the buffer is long enough
 descriptors-fit : (c : tie.After-large-buffer) → c .before .before .before .walk-in .result .«descriptors_len» ≤ length (c .large-buffer .result)

@@ -1,17 +1,17 @@
--- `vectors::next_call` meets its contract. Assumes nothing.
+-- `replays::file::next_call` meets its contract. Assumes nothing.
 use mathlib.Core.Path.{_≡_, sym, _∙_}
 use Prim.Native.Nat.{_*_, _≤_}
 use native.Mathlib.Omega.{arith}
 use borrow.Author.Tests.{not-false}
 use lib.ListN.{length}
 use borrow.Author.Needs.{needs}
-use Rattle.vectors.specs.Counts.{OfCall}
-use Rattle.vectors.specs.declared.Next.{Next}
-use Rattle.vectors.specs.declared.Next.the-variants.{End}
+use Rattle.replays.specs.Files.{OfCall}
+use Rattle.replays.specs.declared.file.Next.{Next}
+use Rattle.replays.specs.declared.file.Next.the-variants.{End}
 use Rattle.replays.proofs.Buffers.{part-long, back-most, back-long, back-enough}
 use Rattle.recorded.proofs.Heads.{fitting}
-use Rattle.vectors.proofs.next_call.Statement.{statement}
-use Rattle.vectors.proofs.next_call.Tie as tie
+use Rattle.replays.proofs.file.next_call.Statement.{statement}
+use Rattle.replays.proofs.file.next_call.Tie as tie
 
 -- the buffers are long enough
 edits-fit : (c : tie.After-struct-known) → c .before .before .before .before .asked-in .result .edits * 5 ≤ length (c .before .buffer .result)

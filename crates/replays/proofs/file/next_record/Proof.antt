@@ -1,11 +1,11 @@
--- `vectors::next_record` meets its contract. Assumes nothing.
+-- `replays::file::next_record` meets its contract. Assumes nothing.
 use mathlib.Core.Path.{_≡_}
 use mathlib.Core.Bool.{Bool, true, false}
 use borrow.Author.Needs.{needs}
-use Rattle.vectors.specs.Counts.{OfCall, OfWalk, OfFile}
-use Rattle.vectors.specs.declared.Next.{Next}
-use Rattle.vectors.proofs.next_record.Statement.{statement}
-use Rattle.vectors.proofs.next_record.Tie as tie
+use Rattle.replays.specs.Files.{OfCall, OfWalk, OfFile}
+use Rattle.replays.specs.declared.file.Next.{Next}
+use Rattle.replays.proofs.file.next_record.Statement.{statement}
+use Rattle.replays.proofs.file.next_record.Tie as tie
 
 of-walks : {walks : Bool} (next : Next) → walks ≡ true → OfWalk next → OfFile walks next
 of-walks next e h = rw e h
