@@ -2,7 +2,7 @@
 use mathlib.Core.Path.{_≡_}
 use mathlib.Core.List.{List, [], _∷_}
 use Prim.Native.Nat.{ℕ, zero, suc, _+_, _<_, _^_}
-use lib.ListN.{length, getD, replicate}
+use lib.ListN.{length, getD}
 use Rattle.usb_store.specs.Layout.{PortStatus, Children, Child, MaxChildren, Ports}
 use Rattle.usb_store.specs.Access.{byteAt, numberAt, withByte, withBytes, withNumber}
 use Rattle.usb_device.specs.declared.hub.HubDevice.{HubDevice}
@@ -32,10 +32,6 @@ withStatuses s place port (v ∷ vs) = withStatuses (withNumber s place (PortSta
 unfoldable pub withHub : List ℕ → ℕ → HubDevice → List ℕ
 withHub s place h =
     withByte (withBytes (withStatuses s place 0 (h .«port_status»)) place Children (h .children)) place MaxChildren (h .«max_children»)
-
--- `HubDevice::new`
-abbrev pub newHub : HubDevice
-newHub = record { «port_status» = replicate 10 0; children = replicate 10 0; «max_children» = 1 }
 
 -- what the struct of the code keeps to: ten statuses of four bytes, and ten children
 pub record TenPorts (h : HubDevice) : Type 0 where

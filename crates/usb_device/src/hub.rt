@@ -12,25 +12,13 @@ ghost use mathlib.Core.Path.{_≡_};
 ghost use Prim.Native.Nat.{_<_};
 ghost use lib.ListN.{length};
 ghost use Rattle.usb_store.specs.Layout.{Places, StoreLength};
-ghost use Rattle.usb_device.specs.Ports.{hubAt, withStatuses, withHub, newHub};
+ghost use Rattle.usb_device.specs.Ports.{hubAt, withStatuses, withHub};
 
 // What the ports' functions read of a hub: bytes 56 to 106 of its place.
 pub struct HubDevice {
     pub port_status: [u32; 10],
     pub children: [u8; 10],
     pub max_children: u8,
-}
-
-impl HubDevice {
-    pub fn new() -> Self
-        ensures { λ r. ⌜ r ≡ newHub ⌝ }
-    {
-        HubDevice {
-            port_status: [0; 10],
-            children: [0; 10],
-            max_children: 1,
-        }
-    }
 }
 
 pub fn load_hub(store: &[u8], place: usize) -> HubDevice

@@ -36,6 +36,11 @@ direction-most code = go (eqb code GetStatus || eqb code GetDescriptor || eqb co
     go true = omega arith
     go false = omega arith
 
+-- the packet size of a first read
+pub packet-small : (b : Bool) → cond {A = ℕ} b 8 64 < 256
+packet-small true = omega arith
+packet-small false = omega arith
+
 pub codes : (recipient code value index size : ℕ) → recipient < 128 → code < 256 → Byte-codes (deviceRequest recipient code value index size)
 unfolding deviceRequest
 codes recipient code value index size r c = record { type = omega (arith, direction-most code); code = c }
@@ -66,14 +71,10 @@ module _ {u : World} {n : ℕ} where
   unfolding usbReadDeviceDescriptor
   read-device-descriptor p =
       bind (gets p Speed) λ speed _.
-      next (puts p MaxPacketSize0 _ (small MaxPacketSize0 (omega arith) (omega arith)) (size (eqb speed 2))) (
+      next (puts p MaxPacketSize0 _ (small MaxPacketSize0 (omega arith) (omega arith)) (packet-small (eqb speed 2))) (
       either (eqb speed 0)
       (next (device-descriptor p 18) skips)
       (bind (device-descriptor p 8) λ count _. whens (not (eqb count 18)) (next (device-descriptor p 18) skips)))
-    where
-      size : (b : Bool) → cond {A = ℕ} b 8 64 < 256
-      size true = omega arith
-      size false = omega arith
 
   pub set-address : (p address : ℕ) → address < 256 → Goes u n (usbSetAddress p address)
   unfolding usbSetAddress

@@ -17,7 +17,7 @@ use Rattle.usb_model.specs.Usbd.{readDeviceDescriptor, usbReadDeviceDesc
 use Rattle.usb_model.specs.Hub.{hubGetStatus, hubChangePortFeature, clearPortFeature, setPortFeature, hubPowerOn, hubPortGetStatus, portStatus}
 use Rattle.usb_model.specs.History.{Event, asked, waited, framed, isRequest, setsAddress, configures, resets}
 use Rattle.usb_model.proofs.Primitives.{room-none, plain}
-use Rattle.usb_model.proofs.Functions.{codes, small}
+use Rattle.usb_model.proofs.Functions.{packet-small, codes, small}
 use Rattle.usb_model.proofs.Reading.{TwoBytes}
 use Rattle.usb_model.proofs.Triples.{State, leads-map, Gives, Keeps, Preorder, k-bind, k-next, k-return, k-skip, k-look, k-get, k-number, k-if, k-when, k-ignore, k-each}
 use Rattle.usb_model.proofs.Events.{Added, wait-adds, frame-adds}
@@ -139,14 +139,10 @@ module _ {h₀ : List Event} where
   unfolding usbReadDeviceDescriptor
   read-device-still p =
       k-bind order (k-get order p Speed) λ speed _.
-      k-next order (put-quiet Keys Still p MaxPacketSize0 _ (keys-clear (eighth (omega arith) (omega arith))) (small MaxPacketSize0 (omega arith) (omega arith)) (size (eqb speed 2))) (
+      k-next order (put-quiet Keys Still p MaxPacketSize0 _ (keys-clear (eighth (omega arith) (omega arith))) (small MaxPacketSize0 (omega arith) (omega arith)) (packet-small (eqb speed 2))) (
       k-if order (eqb speed 0)
       (k-next order (device-still p 18) (k-skip order))
       (k-bind order (device-still p 8) λ count _. k-when order _ (k-next order (device-still p 18) (k-skip order))))
-    where
-      size : (b : Bool) → cond {A = ℕ} b 8 64 < 256
-      size true = omega arith
-      size false = omega arith
 
   pub hub-status-still : (p : ℕ) → Keeps Stilly (hubGetStatus p)
   unfolding hubGetStatus
