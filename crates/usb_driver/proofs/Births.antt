@@ -1,24 +1,21 @@
 -- A new child: a place is taken, and it stands above its hub. Assumes nothing.
 use mathlib.Core.Path.{_≡_, refl, ap, subst}
-use mathlib.Core.Bool.{Bool, true, false, cond, false≢true}
+use mathlib.Core.Bool.{Bool, true, false, false≢true}
 use mathlib.Core.List.{List, [], _∷_}
 use Prim.Native.Nat.{ℕ, _+_, _≤_, _<_}
 use native.Mathlib.Omega.{arith}
-use borrow.Author.Tests.{eqb-false}
-use lib.Dec.{eqb}
-use Rattle.usb_types.specs.declared.types.ErrorCode.the-variants.{BusFull}
 use Rattle.usb_store.specs.Layout.{Speed, Status}
 use Rattle.usb_store.specs.Access.{withBytes}
 use Rattle.usb_store.specs.Values.{Powered}
-use Rattle.usb_device.specs.Device.{newDevice, firstUnused, freePlaces}
-use Rattle.usb_device.proofs.Free.{first-most}
-use Rattle.usb_model.specs.Programs.{Ran, done, fail, halt, on, _>>=_, _>>_, return, skip, throw, look, change, when, endOf}
+use Rattle.usb_device.specs.Device.{firstUnused, freePlaces}
+use Rattle.usb_model.specs.Programs.{Ran, done, fail, halt, on, _>>=_, _>>_, return, endOf}
 use Rattle.usb_model.specs.declared.Progress.{Progress}
-use Rattle.usb_model.specs.World.{World, M, put, putBytes}
+use Rattle.usb_model.specs.World.{World, M, put}
 use Rattle.usb_model.specs.Usbd.{usbAllocateDevice}
 use Rattle.usb_model.specs.Kept.{Good}
 use Rattle.usb_model.proofs.Keeps.{Any, Left, left-holds, next}
 use Rattle.usb_model.proofs.Stores.{new-follows, first-new, free-new, store-good}
+use Rattle.usb_model.proofs.Ways.{Allocates, bus-full, allocated, allocate-ends}
 use Rattle.usb_model.proofs.Walks.{Reach, Walks, reach-here}
 use Rattle.usb_model.proofs.Primitives.{puts}
 use Rattle.usb_model.proofs.Functions.{small}
@@ -71,22 +68,18 @@ valueOf z (done a w) = a
 valueOf z (fail e w) = z
 valueOf z (halt h w) = z
 
-allocated : (w : World) (place : ℕ) (v : World) → Good w → usbAllocateDevice w ≡ done place v → Allocated w place v
-unfolding usbAllocateDevice _>>=_ _>>_ look when throw skip putBytes change return
-allocated w place v g e = go (firstUnused (w .store)) refl (eqb (firstUnused (w .store)) 32) refl e
-  where
-    program : ℕ → Bool → Ran World ℕ
-    program p b = on (cond b (throw {A = Unit {0}} BusFull) skip w) (λ _. putBytes p 0 (newDevice p) >> return p)
+abbrev Took : World → Ran World ℕ → Type 0
+Took w (done place v) = Allocated w place v
+Took w (fail e v) = Unit {0}
+Took w (halt h v) = Unit {0}
 
-    go : (p : ℕ) → p ≡ firstUnused (w .store) → (b : Bool) → eqb p 32 ≡ b → program p b ≡ done place v → Allocated w place v
-    go p h true t e = absurd (false≢true (ap isDone e))
-    go p h false t e =
-        let inside : p < 32 = omega (arith, eqb-false p 32 t, h, first-most (w .store)) in
-        let is : p ≡ place = ap (valueOf 0) e in
-        let there = ap endOf e in
-        subst (λ (x : World). Allocated w place x) there
-        (subst (λ (q : ℕ). Allocated w q (endOf (program p false))) is
-        (record { good = store-good _ (new-follows g p h inside) g; is = h; inside = inside; used = first-new g p h inside; free = free-new g p h inside }))
+took : {w : World} {r : Ran World ℕ} → Good w → Allocates w r → Took w r
+took g bus-full = tt
+took g (allocated {p} e inside) =
+    record { good = store-good _ (new-follows g p e inside) g; is = e; inside = inside; used = first-new g p e inside; free = free-new g p e inside }
+
+allocated-at : (w : World) (place : ℕ) (v : World) → Good w → usbAllocateDevice w ≡ done place v → Allocated w place v
+allocated-at w place v g e = subst (Took w) e (took g (allocate-ends w))
 
 -- the bus of a new child
 pub record Born (w : World) (place : ℕ) (v : World) : Type 0 where
@@ -98,13 +91,13 @@ unfolding newChild return
 born hub port place {w} {v} b l e =
     let reset = parts-next _ _ w place v (e .is) in
     let here : Reach w (hub + 1) (reset .middle) = walked-to (resets hub port l) (at-place b) (reset .first) in
-    let took = parts _ _ (reset .middle) place v (reset .last) in
-    let new = allocated (reset .middle) (took .value) (took .middle) (here .good) (took .first) in
-    let put = parts-next _ _ (took .middle) place v (took .last) in
-    let there : Reach (took .middle) (took .value + 1) (put .middle) = walked-to (places hub port (took .value) l (omega (arith, here .used, new .is)) (omega arith) (new .inside)) (reach-here (took .middle) (new .good) (new .used)) (put .first) in
-    let same : took .value ≡ place = ap (valueOf 0) (put .last) in
+    let taken = parts _ _ (reset .middle) place v (reset .last) in
+    let new = allocated-at (reset .middle) (taken .value) (taken .middle) (here .good) (taken .first) in
+    let put = parts-next _ _ (taken .middle) place v (taken .last) in
+    let there : Reach (taken .middle) (taken .value + 1) (put .middle) = walked-to (places hub port (taken .value) l (omega (arith, here .used, new .is)) (omega arith) (new .inside)) (reach-here (taken .middle) (new .good) (new .used)) (put .first) in
+    let same : taken .value ≡ place = ap (valueOf 0) (put .last) in
     let end : put .middle ≡ v = ap endOf (put .last) in
-    let reached : Reach (took .middle) (took .value + 1) v = subst (Reach (took .middle) (took .value + 1)) end there in
+    let reached : Reach (taken .middle) (taken .value + 1) v = subst (Reach (taken .middle) (taken .value + 1)) end there in
     record {
       bus = record { fit = e .fit; good = reached .good; used = omega (arith, reached .used, same); inside = omega (arith, new .inside, same) };
       free = omega (arith, reached .onward .free, new .free, here .onward .free);
@@ -114,7 +107,7 @@ born hub port place {w} {v} b l e =
 pub root-born : (place speed : ℕ) (s s₁ s₂ : List ℕ) {w : World} {l o : List ℕ} {at : Progress} → Good w → speed < 256 → Ends usbAllocateDevice w Ok place (here s l o at)
     → s₁ ≡ withBytes s place Speed (speed ∷ []) → s₂ ≡ withBytes s₁ place Status (Powered ∷ []) → Born w place (here s₂ l o at)
 root-born place speed s s₁ s₂ {w} {l} {o} {at} g low e e₁ e₂ =
-    let new = allocated w place (here s l o at) g (e .is) in
+    let new = allocated-at w place (here s l o at) g (e .is) in
     let end = put-then {l = l} {o = o} {at = at} place Speed speed s₁ e₁ (put-last place Status Powered s₂ e₂ (put-bytes-fit place Speed (speed ∷ []) s₁ e₁ (e .fit))) in
     let walk : Walks (here s l o at) (place + 1) (put place Speed speed >> put place Status Powered) Any = next (puts place Speed speed (small Speed (omega arith) (omega arith)) low) (puts place Status Powered (small Status (omega arith) (omega arith)) (omega arith)) in
     let r : Reach (here s l o at) (place + 1) (here s₂ l o at) = reached (walk .run (here s l o at) (reach-here (here s l o at) (new .good) (new .used))) end in

@@ -1,26 +1,23 @@
 -- A new device: a place is allocated, and the device stands at the port that was reset for it. Assumes nothing.
 use mathlib.Core.Path.{_≡_, refl, sym, ap, _∙_, subst}
-use mathlib.Core.Bool.{Bool, true, false, cond}
 use mathlib.Core.Logic.{_⊎_, inl, inr, _≢_}
 use mathlib.Core.List.{List, [], _∷_}
 use Prim.Native.Nat.{ℕ, _+_, _≤_, _<_}
 use native.Mathlib.Omega.{arith}
 use native.Mathlib.Decide.{ℕ-discrete, decLt}
-use borrow.Author.Tests.{eqb-false}
-use lib.Dec.{eqb}
 use lib.ListN.{getD}
-use Rattle.usb_types.specs.declared.types.ErrorCode.the-variants.{BusFull}
 use Rattle.usb_store.specs.Layout.{Used, Number, Status, Hub, Child}
 use Rattle.usb_store.specs.Access.{byteAt, withBytes, withByte}
 use Rattle.usb_store.specs.Values.{Attached}
 use Rattle.usb_store.proofs.Fields.{byte-other, byte-same}
 use Rattle.usb_device.specs.Device.{newDevice, firstUnused}
-use Rattle.usb_device.proofs.Free.{first-most, first-unused, new-byte}
-use Rattle.usb_model.specs.Programs.{on, _>>=_, _>>_, return, skip, throw, look, change, when}
-use Rattle.usb_model.specs.World.{M, put, putBytes}
+use Rattle.usb_device.proofs.Free.{first-unused, new-byte}
+use Rattle.usb_model.specs.Programs.{Ran, on, _>>=_, _>>_}
+use Rattle.usb_model.specs.World.{World, M, put}
 use Rattle.usb_model.specs.Usbd.{usbAllocateDevice}
 use Rattle.usb_model.specs.History.{Event, setsAddress, configures, count}
 use Rattle.usb_model.specs.Demand3.{Once, Device, Stands}
+use Rattle.usb_model.proofs.Ways.{Allocates, bus-full, allocated, allocate-ends}
 use Rattle.usb_model.proofs.Stores.{Follows, new-follows, first-new, elsewhere, child-follows}
 use Rattle.usb_model.proofs.Triples.{State, store, stored, Leads, bad, Does, does-store}
 use Rattle.usb_model.proofs.Quiet.{spot-apart}
@@ -41,13 +38,12 @@ module _ {h₀ : List Event} where
     pub past : t .past ≡ before .past
 
   pub does-allocate : {P N : State h₀ → Type 0} {B : Type 0} {Q : B → State h₀ → Type 0} {k : ℕ → M B} → ((s : State h₀) → P s → N s) → ((x : ℕ) → Does (Allocated P x) (k x) Q N) → Does P (usbAllocateDevice >>= k) Q N
-  unfolding usbAllocateDevice _>>=_ _>>_ look when throw skip putBytes change return
-  does-allocate {P} {N} {B} {Q} {k} f h = record { run = λ s p. go s p (firstUnused (store s)) refl (eqb (firstUnused (store s)) 32) refl }
+  unfolding _>>=_
+  does-allocate {P} {N} {B} {Q} {k} f h = record { run = λ s p. go s p (allocate-ends (s .world)) }
     where
-      go : (s : State h₀) → P s → (x : ℕ) → x ≡ firstUnused (store s) → (b : Bool) → eqb x 32 ≡ b → Leads Q N (on (on (cond b (throw {A = Unit {0}} BusFull) skip (s .world)) (λ _. putBytes x 0 (newDevice x) >> return x)) k)
-      go s p x e true t = bad s (f s p)
-      go s p x e false t =
-          let inside : x < 32 = omega (arith, eqb-false x 32 t, e, first-most (store s)) in
+      go : (s : State h₀) → P s → {r : Ran World ℕ} → Allocates (s .world) r → Leads Q N (on r k)
+      go s p bus-full = bad s (f s p)
+      go s p (allocated {p = x} e inside) =
           h x .run (stored s (withBytes (store s) x 0 (newDevice x)) (new-follows (s .good) x e inside)) (record { before = s; pre = p; here = e; inside = inside; is = refl; past = refl })
 
 -- ---- the bytes of a new device

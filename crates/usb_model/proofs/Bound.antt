@@ -6,16 +6,14 @@ use mathlib.Core.Logic.{_≢_}
 use mathlib.Core.List.{List}
 use Prim.Native.Nat.{ℕ, zero, suc, _+_, _≤_, _<_, min}
 use native.Mathlib.Omega.{arith}
-use borrow.Author.Tests.{eqb-false, not-true, not-false}
+use borrow.Author.Tests.{not-true, not-false}
 use lib.Dec.{eqb}
-use Rattle.usb_types.specs.declared.types.ErrorCode.the-variants.{BusFull}
 use Rattle.usb_store.specs.Layout.{Number, Speed, Status, PortNumber, Parent, Hub, Used, Child}
 use Rattle.usb_store.specs.Access.{byteAt, withByte}
-use Rattle.usb_device.specs.Device.{newDevice, firstUnused}
-use Rattle.usb_device.proofs.Free.{first-most, first-unused}
+use Rattle.usb_device.proofs.Free.{first-unused}
 use Rattle.usb_sound.specs.Sound.{Sound}
-use Rattle.usb_model.specs.Programs.{Ran, done, fail, halt, on, _>>=_, _>>_, return, skip, throw, look, change, when, endOf}
-use Rattle.usb_model.specs.World.{World, M, withStore, get, put, putBytes}
+use Rattle.usb_model.specs.Programs.{Ran, done, fail, halt, on, _>>=_, _>>_, change, endOf}
+use Rattle.usb_model.specs.World.{World, M, withStore, get, put}
 use Rattle.usb_model.specs.Features.{PORT-CONNECTION, PORT-ENABLE, bit}
 use Rattle.usb_model.specs.Usbd.{usbAllocateDevice}
 use Rattle.usb_model.specs.Hub.{hubPortConnectionChanged, hubCheckConnection, hubAttach}
@@ -23,6 +21,7 @@ use Rattle.usb_model.specs.Attach.{usbAttachDevice, attachBelow, usbAtta
 use Rattle.usb_model.specs.Entry.{Lent, Verdict, accepted, refused, rootVerdict, start, answered, call, rootAttach}
 use Rattle.usb_model.specs.Kept.{LentBytes}
 use Rattle.usb_model.specs.Count.{mostRequests, storeLeft}
+use Rattle.usb_model.proofs.Ways.{Allocates, bus-full, allocated, allocate-ends}
 use Rattle.usb_model.proofs.Costs.{after, Ended, Costs, bind, next, next′, looks, more, skips, throws, succeeds, attempts, ignores, whens, whens-true, unless, eachs}
 use Rattle.usb_model.proofs.Budget.{budget, Known, nothing, place, port, Knows, forget, frame, Keeps, Sends, hub-writes, new-writes}
 use Rattle.usb_model.proofs.Accepted.{root-accepted}
@@ -33,14 +32,12 @@ use Rattle.usb_model.proofs.Asks.{small, gets, puts, puts-most, puts-ch
 
 -- an allocation pays for 8 requests
 allocates : {k : Known} {B : Type 0} {f : ℕ → M B} (n : ℕ) → ((p : ℕ) → p < 32 → Sends (place p true) (8 + n) (f p)) → Sends k n (usbAllocateDevice >>= f)
-unfolding usbAllocateDevice _>>=_ _>>_ look when throw skip putBytes change return
-allocates {k} {B} {f} n h = record { run = λ w x. go w x (firstUnused (w .store)) refl (eqb (firstUnused (w .store)) 32) refl }
+unfolding _>>=_
+allocates {k} {B} {f} n h = record { run = λ w x. go w x (allocate-ends w) }
   where
-    go : (w : World) → Knows k (w .store) → (p : ℕ) → p ≡ firstUnused (w .store) → (b : Bool) → eqb p 32 ≡ b
-        → Ended (after (frame k nothing (λ s x. forget x))) n w (endOf (on (on (cond b (throw {A = Unit {0}} BusFull) skip w) (λ _. putBytes p 0 (newDevice p) >> return p)) f))
-    go w x p e true t = record { holds = forget x; paid = omega arith }
-    go w x p e false t =
-        let inside : p < 32 = omega (arith, eqb-false p 32 t, e, first-most (w .store)) in
+    go : (w : World) → Knows k (w .store) → {r : Ran World ℕ} → Allocates w r → Ended (after (frame k nothing (λ s x. forget x))) n w (endOf (on r f))
+    go w x bus-full = record { holds = forget x; paid = omega arith }
+    go w x (allocated {p} e inside) =
         let r = new-writes x p inside (ap (λ (q : ℕ). byteAt (w .store) q Used) e ∙ first-unused (w .store) (omega arith)) in
         let d = h p inside .run _ (r .knows) in
         record { holds = d .holds; paid = omega (arith, d .paid, r .gain) }

@@ -5,6 +5,7 @@ pub mod Keeps
 pub mod Onward
 pub mod Walks
 pub mod Stores
+pub mod Ways
 pub mod Primitives
 pub mod Record
 pub mod Pairs
@@ -14,6 +15,7 @@ pub mod Accepted
 pub mod Entries
 pub mod ScanAnswer
 -- the bench table (specs/Bench.antt)
+pub mod Definitions
 pub mod Bench
 -- a sound store stays sound
 pub mod SoundStores

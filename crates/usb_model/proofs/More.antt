@@ -8,9 +8,8 @@ use Prim.Native.Nat.{ℕ, zero, suc, _+_, _-_, _≤_, min}
 use native.Mathlib.Omega.{arith}
 use borrow.Author.Tests.{ltb-false, le-ltb}
 use lib.Dec.{ltb}
-use lib.ListN.{length, getD, take, drop, length-append, length-drop}
+use lib.ListN.{length, getD, drop, length-append, length-drop}
 use lib.Seq.{take-append-le, drop-append-le}
-use Rattle.usb_types.specs.Numbers.{fromLittleEndian}
 use Rattle.usb_types.specs.Outcomes.{listed}
 use Rattle.usb_types.specs.Actions.{requestAction, waitAction, frameIntervalAction}
 use Rattle.usb_types.specs.declared.types.ErrorCode.{ErrorCode}
@@ -23,7 +22,7 @@ use Rattle.usb_store.specs.Access.{write}
 use Rattle.usb_store.proofs.Writes.{length-write}
 use Rattle.usb_model.specs.Programs.{if_then_else_, Ran, done, fail, halt, on, _>>=_, _>>_, return, skip, throw, stop, look, change, succeed, caught, attempt, ignore, when, each, endOf}
 use Rattle.usb_model.specs.World.{World, M, get, getBytes, getNumber, put, putBytes, putNumber, appended, counted, logAction, logRequest, microDelay, dwcUpdateHostFrameInterval}
-use Rattle.usb_model.specs.Transfer.{Outcome, taken, takeOutcome}
+use Rattle.usb_model.specs.Transfer.{Outcome, taken, sizeOf, outcomeOf, takeOutcome}
 use Rattle.usb_model.specs.Kept.{requestsIn, Onward}
 use Rattle.usb_model.proofs.Onward.{onward-same, onward-join}
 use Rattle.usb_model.proofs.Primitives.{log-onward}
@@ -220,9 +219,6 @@ module _ {more : List ℕ} where
 -- ---- an outcome
 
 -- the three tests on what is left of the outcomes
-abbrev sizeOf : List ℕ → ℕ
-sizeOf rest = fromLittleEndian (take 2 (drop 2 rest))
-
 abbrev isShort : List ℕ → Bool
 isShort rest = ltb (length rest) 4
 
@@ -235,8 +231,7 @@ isCut rest = ltb (length rest) (4 + sizeOf rest)
 -- what `takeOutcome` does by these tests
 abbrev taking : ℕ → List ℕ → Bool → Bool → Bool → M Outcome
 taking asked rest short garbled cut =
-    when short (stop OutcomesSpent) >> (when garbled (stop GarbledOutcome) >> (when cut (stop OutcomesSpent) >> (change (taken (4 + sizeOf rest)) >>
-    return (record { submit = getD rest 0 0; error = getD rest 1 0; delivered = take (min (sizeOf rest) asked) (drop 4 rest) }))))
+    when short (stop OutcomesSpent) >> (when garbled (stop GarbledOutcome) >> (when cut (stop OutcomesSpent) >> (change (taken (4 + sizeOf rest)) >> return (outcomeOf asked rest))))
 
 abbrev takeFrom : ℕ → List ℕ → M Outcome
 takeFrom asked rest = taking asked rest (isShort rest) (isGarbled rest) (isCut rest)

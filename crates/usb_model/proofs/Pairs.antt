@@ -1,20 +1,19 @@
 -- `Pairs u n m m′ Q`: from every world that u reaches with its first n places used, m and m′ do the same, and they walk. This carries the
 -- functions that call each other: one of them run with two attaches that do the same does the same. Assumes nothing.
 use mathlib.Core.Path.{_≡_, refl, ap, subst}
-use mathlib.Core.Bool.{Bool, true, false, cond}
+use mathlib.Core.Bool.{Bool, true, false}
 use Prim.Native.Nat.{ℕ, zero, suc, _+_, _≤_, _<_}
 use native.Mathlib.Omega.{arith}
 use borrow.Author.Tests.{eqb-false}
 use lib.Dec.{eqb}
-use Rattle.usb_types.specs.declared.types.ErrorCode.the-variants.{BusFull}
 use Rattle.usb_store.specs.Layout.{Child}
 use Rattle.usb_store.specs.Access.{byteAt}
-use Rattle.usb_device.specs.Device.{newDevice, firstUnused, freePlaces}
-use Rattle.usb_device.proofs.Free.{first-most}
-use Rattle.usb_model.specs.Programs.{Ran, on, _>>=_, _>>_, return, skip, throw, look, change, caught, attempt, ignore, when, each}
-use Rattle.usb_model.specs.World.{World, M, get, putBytes}
+use Rattle.usb_device.specs.Device.{firstUnused, freePlaces}
+use Rattle.usb_model.specs.Programs.{Ran, on, _>>=_, _>>_, look, caught, attempt, ignore, when, each}
+use Rattle.usb_model.specs.World.{World, M, get}
 use Rattle.usb_model.specs.Usbd.{usbAllocateDevice}
 use Rattle.usb_model.specs.Kept.{Above}
+use Rattle.usb_model.proofs.Ways.{Allocates, bus-full, allocated, allocate-ends}
 use Rattle.usb_model.proofs.Keeps.{Any, Left, is-done, is-failed, is-halted, left-weaker, caught-left, skips}
 use Rattle.usb_model.proofs.Stores.{new-follows, first-new, free-new, store-onward, store-good}
 use Rattle.usb_model.proofs.Onward.{onward-same, onward-join}
@@ -94,21 +93,17 @@ module _ {u : World} {n : ℕ} where
   -- a place is allocated: from then on it is known to be used, and one place less is free
   pub allocate₂ : {B : Type 0} {Q : B → Type 0} {f f′ : ℕ → M B} → ((v : World) (place : ℕ) → freePlaces (v .store) < freePlaces (u .store) → n ≤ place → place < 32 → Pairs v (place + 1) (f place) (f′ place) Q)
       → Pairs u n (usbAllocateDevice >>= f) (usbAllocateDevice >>= f′) Q
-  unfolding usbAllocateDevice _>>=_ _>>_ look when throw skip putBytes change return
-  allocate₂ {B} {Q} {f} {f′} h = record { run = λ w x. go w x (firstUnused (w .store)) refl (eqb (firstUnused (w .store)) 32) refl }
+  unfolding _>>=_
+  allocate₂ {B} {Q} {f} {f′} h = record { run = λ w x. go w x (allocate-ends w) }
     where
-      -- what the allocation does, at the place p and the test b
-      program : World → ℕ → Bool → (ℕ → M B) → Ran World B
-      program w p b f = on (on (cond b (throw {A = Unit {0}} BusFull) skip w) (λ _. putBytes p 0 (newDevice p) >> return p)) f
-
-      go : (w : World) → Reach u n w → (p : ℕ) → p ≡ firstUnused (w .store) → (b : Bool) → eqb p 32 ≡ b → Same (Reach u n) Q (program w p b f) (program w p b f′)
-      go w x p e true t = record { equal = refl; walk = is-failed x }
-      go w x p e false t =
-          let inside : p < 32 = omega (arith, eqb-false p 32 t, e, first-most (w .store)) in
+      go : (w : World) → Reach u n w → {r : Ran World ℕ} → Allocates w r → Same (Reach u n) Q (on r f) (on r f′)
+      go w x bus-full = record { equal = refl; walk = is-failed x }
+      go w x (allocated {p} e inside) =
           let s = new-follows (x .good) p e inside in
           let o = store-onward _ s in
           weaker (λ v. reach-less (onward-join (x .onward) o) (omega (arith, e, x .used)))
-          (h _ p (omega (arith, free-new (x .good) p e inside, x .onward .free)) (omega (arith, e, x .used)) inside .run _ (reach-here _ (store-good _ s (x .good)) (first-new (x .good) p e inside)))
+          (h _ p (omega (arith, free-new (x .good) p e inside, x .onward .free)) (omega (arith, e, x .used)) inside .run _
+          (reach-here _ (store-good _ s (x .good)) (first-new (x .good) p e inside)))
 
 -- where more is known, of a program that does so from every world
 pub known : {u : World} {n m : ℕ} {A : Type 0} {Q : A → Type 0} {p p′ : M A} → n ≤ m → ((v : World) → Pairs v n p p′ Q) → Pairs u m p p′ Q

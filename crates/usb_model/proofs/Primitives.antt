@@ -1,35 +1,32 @@
 -- The steps that the functions of the driver are made of walk. Assumes nothing.
-use mathlib.Core.Path.{_≡_, refl, sym, ap, _∙_, subst}
-use mathlib.Core.Bool.{Bool, true, false, cond, not}
+use mathlib.Core.Path.{_≡_, refl}
+use mathlib.Core.Bool.{Bool, true, false, cond}
 use mathlib.Core.Logic.{inl}
 use mathlib.Core.List.{List, [], _∷_}
 use Prim.Native.Nat.{ℕ, _+_, _-_, _≤_, _<_, min}
 use native.Mathlib.Omega.{arith}
-use borrow.Author.Tests.{ltb-false}
 use lib.Dec.{leb, ltb}
-use lib.ListN.{length, getD, take, drop, length-take, length-drop}
-use Rattle.usb_types.specs.Numbers.{littleEndian, fromLittleEndian}
-use Rattle.usb_types.specs.Outcomes.{listed}
+use lib.ListN.{length, take, drop, length-take, length-drop}
+use Rattle.usb_types.specs.Numbers.{littleEndian}
 use Rattle.usb_types.specs.Actions.{requestAction, waitAction, frameIntervalAction, packetSize}
 use Rattle.usb_types.specs.Requests.{directionBit}
 use Rattle.usb_types.proofs.LittleEndian.{length-le}
 use Rattle.usb_types.proofs.Lengths.{request-length, wait-length, frame-length}
-use Rattle.usb_types.specs.declared.types.Halt.the-variants.{GarbledOutcome, OutcomesSpent, LogFull}
 use Rattle.usb_types.specs.declared.request.UsbDeviceRequest.{UsbDeviceRequest}
 use Rattle.usb_types.specs.declared.pipe.UsbPipeAddress.{UsbPipeAddress}
 use Rattle.usb_store.specs.Layout.{Child, MaxChildren, Error, LastTransfer}
-use Rattle.usb_store.specs.Access.{write}
 use Rattle.usb_store.proofs.Fields.{bytes-most}
 use Rattle.usb_store.proofs.Writes.{length-write}
 use Rattle.usb_device.proofs.Free.{first-most}
-use Rattle.usb_model.specs.Programs.{on, _>>=_, _>>_, return, skip, stop, look, change, when}
-use Rattle.usb_model.specs.World.{World, withStore, get, getBytes, getNumber, put, putBytes, putNumber, appended, counted, logAction, logRequest, microDelay, dwcUpdateHostFrameInterval}
-use Rattle.usb_model.specs.Transfer.{Outcome, taken, takeOutcome, Buffer, usbControlMessage, control, read}
+use Rattle.usb_model.specs.Programs.{Ran}
+use Rattle.usb_model.specs.World.{World, withStore, get, getBytes, getNumber, put, putBytes, putNumber, logAction, logRequest, microDelay, dwcUpdateHostFrameInterval}
+use Rattle.usb_model.specs.Transfer.{Outcome, taken, outcomesLeft, sizeOf, outcomeOf, takeOutcome, Buffer, usbControlMessage, control, read}
 use Rattle.usb_model.specs.Kept.{Bytes, requestsIn, Good, Onward}
 use Rattle.usb_model.proofs.Bytes.{bytes-one, bytes-cons, bytes-append, zeros, bytes-le, bytes-take, bytes-drop, bytes-write, bytes-at, byte-at}
 use Rattle.usb_model.proofs.Onward.{onward-same}
 use Rattle.usb_model.proofs.Stores.{Plain, plain-less, none-follows, plain-follows, most-follows, child-follows, store-onward, store-good, Follows}
 use Rattle.usb_model.proofs.Keeps.{Any, Left, is-done, is-halted, bind, next, gives, throws, looks, changes, succeeds, whens}
+use Rattle.usb_model.proofs.Ways.{Logged, Logs, full, logged, log-ends, request-ends, Takes, missing, whole, take-ends}
 use Rattle.usb_model.proofs.Walks.{Reach, Walks, Goes, reach-on}
 
 -- ---- the store
@@ -80,15 +77,6 @@ module _ {u : World} {n : ℕ} where
 
 -- ---- the log
 
--- the world with one action more, and the requests counted
-abbrev pub Logged : World → List ℕ → ℕ → World
-Logged w action requests = record {
-  store = w .store;
-  log = write (w .log) (w .at .logged) action;
-  outcomes = w .outcomes;
-  at = record { logged = w .at .logged + 16; taken = w .at .taken; requests = requests };
-}
-
 pub log-onward : {w : World} (action : List ℕ) (requests : ℕ) → length action ≡ 16 → requests ≡ w .at .requests + requestsIn 1 action → Onward w (Logged w action requests)
 log-onward {w} action requests long e = record {
   store = refl;
@@ -117,25 +105,19 @@ log-good {w} action requests b room g = record {
 }
 
 module _ {u : World} {n : ℕ} (action : List ℕ) (long : length action ≡ 16) (b : Bytes action) where
+  log-left : {w : World} {r : Ran World (Unit {0})} (requests : ℕ) → requests ≡ w .at .requests + requestsIn 1 action → Reach u n w → Logs action w requests r
+      → Left (Reach u n) Any r
+  log-left requests e x full = is-halted x
+  log-left {w} requests e x (logged room) =
+      is-done (reach-on x (log-onward action requests long e) (log-good {w = w} action requests b (omega (arith, room, x .good .logged)) (x .good))) tt
+
   -- an action that is no request
   pub logs : requestsIn 1 action ≡ 0 → Goes u n (logAction action)
-  unfolding logAction _>>=_ _>>_ look when stop skip change
-  logs none = record { run = λ w x. go w x (ltb (length (w .log) - w .at .logged) 16) refl }
-    where
-      go : (w : World) → Reach u n w → (t : Bool) → ltb (length (w .log) - w .at .logged) 16 ≡ t → Left (Reach u n) Any (on (cond t (stop {A = Unit {0}} LogFull) skip w) (λ _. change (appended action)))
-      go w x true e = is-halted x
-      go w x false e =
-          is-done (reach-on x (log-onward action (w .at .requests) long (omega (arith, none))) (log-good {w = w} action (w .at .requests) b (omega (arith, ltb-false (length (w .log) - w .at .logged) 16 e, x .good .logged)) (x .good))) tt
+  logs none = record { run = λ w x. log-left _ (omega (arith, none)) x (log-ends action w) }
 
   -- a request, which is counted
   pub sends : requestsIn 1 action ≡ 1 → Goes u n (logRequest action)
-  unfolding logRequest logAction _>>=_ _>>_ look when stop skip change
-  sends one = record { run = λ w x. go w x (ltb (length (w .log) - w .at .logged) 16) refl }
-    where
-      go : (w : World) → Reach u n w → (t : Bool) → ltb (length (w .log) - w .at .logged) 16 ≡ t → Left (Reach u n) Any (on (on (cond t (stop {A = Unit {0}} LogFull) skip w) (λ _. change (appended action))) (λ _. change counted))
-      go w x true e = is-halted x
-      go w x false e =
-          is-done (reach-on x (log-onward action (w .at .requests + 1) long (omega (arith, one))) (log-good {w = w} action (w .at .requests + 1) b (omega (arith, ltb-false (length (w .log) - w .at .logged) 16 e, x .good .logged)) (x .good))) tt
+  sends one = record { run = λ w x. log-left _ (omega (arith, one)) x (request-ends action w) }
 
 module _ {u : World} {n : ℕ} where
   pub waits : (microseconds : ℕ) → Goes u n (microDelay microseconds)
@@ -206,25 +188,19 @@ took-good k l g = record {
   child = g .child;
 }
 
+pub delivered-bytes : {w : World} (asked : ℕ) → Good w → Bytes (outcomeOf asked (outcomesLeft w) .delivered)
+delivered-bytes {w} asked g =
+    let left : List ℕ = outcomesLeft w in
+    bytes-take (min (sizeOf left) asked) (drop 4 left) (bytes-drop 4 left (bytes-drop (w .at .taken) (w .outcomes) (g .outcomes)))
+
 pub takes : {u : World} {n : ℕ} (asked : ℕ) → Walks u n (takeOutcome asked) (λ o. Bytes (o .delivered))
-unfolding takeOutcome _>>=_ _>>_ look when stop skip change return
-takes {u} {n} asked = record {
-  run = λ w x.
-      let rest : List ℕ = drop (w .at .taken) (w .outcomes) in
-      go w x rest refl (ltb (length rest) 4) (not (listed (getD rest 0 0) (getD rest 1 0))) (ltb (length rest) (4 + fromLittleEndian (take 2 (drop 2 rest)))) refl;
-}
+takes {u} {n} asked = record { run = λ w x. go w x (take-ends asked w) }
   where
-    go : (w : World) → Reach u n w → (rest : List ℕ) → rest ≡ drop (w .at .taken) (w .outcomes) → (short garbled cut : Bool) → ltb (length rest) (4 + fromLittleEndian (take 2 (drop 2 rest))) ≡ cut
-        → Left (Reach u n) (λ (o : Outcome). Bytes (o .delivered))
-        ((cond short (stop {A = Unit {0}} OutcomesSpent) skip >> (cond garbled (stop {A = Unit {0}} GarbledOutcome) skip >> (cond cut (stop {A = Unit {0}} OutcomesSpent) skip >> (change (taken (4 + fromLittleEndian (take 2 (drop 2 rest)))) >> return (record { submit = getD rest 0 0; error = getD rest 1 0; delivered = take (min (fromLittleEndian (take 2 (drop 2 rest))) asked) (drop 4 rest) }))))) w)
-    go w x rest e true garbled cut t = is-halted x
-    go w x rest e false true cut t = is-halted x
-    go w x rest e false false true t = is-halted x
-    go w x rest e false false false t =
-        let size : ℕ = fromLittleEndian (take 2 (drop 2 rest)) in
-        let here : length rest ≡ length (w .outcomes) - w .at .taken = ap length e ∙ length-drop (w .at .taken) (w .outcomes) in
-        is-done (reach-on x (took-onward (4 + size)) (took-good (4 + size) (omega (arith, ltb-false (length rest) (4 + size) t, x .good .taken)) (x .good)))
-        (bytes-take (min size asked) (drop 4 rest) (bytes-drop 4 rest (subst Bytes (sym e) (bytes-drop (w .at .taken) (w .outcomes) (x .good .outcomes)))))
+    go : (w : World) → Reach u n w → {r : Ran World Outcome} → Takes asked w r → Left (Reach u n) (λ (o : Outcome). Bytes (o .delivered)) r
+    go w x missing = is-halted x
+    go w x (whole l) =
+        is-done (reach-on x (took-onward (4 + sizeOf (outcomesLeft w))) (took-good (4 + sizeOf (outcomesLeft w)) (omega (arith, l, length-drop (w .at .taken) (w .outcomes), x .good .taken)) (x .good)))
+        (delivered-bytes asked (x .good))
 
 -- where delivered bytes may go: no key of the place
 pub data Fits (b : Buffer) : Type 0 where

@@ -12,7 +12,8 @@ use Rattle.usb_types.specs.declared.pipe.UsbPipeAddress.{UsbPipeAddress}
 use Rattle.usb_types.proofs.LittleEndian.{from-le}
 use Rattle.usb_store.specs.Access.{write}
 use Rattle.usb_model.specs.World.{World}
-use Rattle.usb_model.specs.History.{Event, asked, waited, framed, requestOf, sizeOf, outcomeOf, Reading, reading, readAction, readLog}
+use Rattle.usb_model.specs.Transfer.{sizeOf, outcomeOf}
+use Rattle.usb_model.specs.History.{Event, asked, waited, framed, requestOf, Reading, reading, readAction, readLog}
 
 -- ---- a write, and what stands before it and at it
 

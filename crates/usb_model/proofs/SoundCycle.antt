@@ -7,21 +7,20 @@ use Prim.Native.Nat.{ℕ, zero, suc, _+_, _-_, _≤_, _<_, min}
 use native.Mathlib.Omega.{arith}
 use borrow.Author.Tests.{eqb-true, eqb-false, not-true, not-false}
 use lib.Dec.{eqb}
-use Rattle.usb_types.specs.declared.types.ErrorCode.the-variants.{BusFull}
 use Rattle.usb_store.specs.Layout.{Number, Used, Speed, PortNumber, Parent, Hub, HubDescriptor, Child, MaxChildren}
 use Rattle.usb_store.specs.Access.{byteAt, withByte, withBytes}
 use Rattle.usb_store.proofs.Fields.{byte-same}
 use Rattle.usb_device.specs.Device.{newDevice, firstUnused, blank}
-use Rattle.usb_device.proofs.Free.{first-most}
 use Rattle.usb_sound.specs.Sound.{IsChild, Sound}
 use Rattle.usb_sound.proofs.Hubs.{child-below}
-use Rattle.usb_model.specs.Programs.{Ran, on, _>>=_, _>>_, return, skip, throw, look, change, when}
+use Rattle.usb_model.specs.Programs.{Ran, on, _>>=_, _>>_, skip, look, change, when}
 use Rattle.usb_model.specs.World.{World, M, withStore, get, put, putBytes}
 use Rattle.usb_model.specs.Features.{PORT-CONNECTION, PORT-ENABLE, bit}
 use Rattle.usb_model.specs.Transfer.{into}
 use Rattle.usb_model.specs.Usbd.{usbAllocateDevice}
 use Rattle.usb_model.specs.Hub.{hubReadDescriptor, hubChangePortFeature, hubPortConnectionChanged, hubCheckConnection, hubCheckConnectionDevice, hubAttach, isOk, scanPort, hubCheckForChange}
 use Rattle.usb_model.specs.Attach.{usbAttachDevice, attachBelow}
+use Rattle.usb_model.proofs.Ways.{Allocates, bus-full, allocated, allocate-ends}
 use Rattle.usb_model.proofs.Functions.{middle}
 use Rattle.usb_model.proofs.Keeps.{Any, Left, is-failed, left-weaker, Safe, Keeps, bind-to, next-to, skips-to, whens-to, unless-to, bind, next, skips, throws, succeeds, attempts, ignores, whens, eachs}
 use Rattle.usb_model.proofs.SoundStores.{Since, At, later, edit-since, edit-sound, hub-edit, parent-edit}
@@ -100,12 +99,12 @@ read-hub-descriptor u = bind (descriptors u _ _ _ _ _ none) λ header _. describ
 -- the first unused place, if there is one
 pub allocates : {P P′ : World → Type 0} {A : Type 0} {Q : A → Type 0} → ((w : World) → P w → P′ w) → (k : ℕ → M A)
     → ((w : World) → P w → (p : ℕ) → p ≡ firstUnused (w .store) → p < 32 → Left P′ Q (k p (withStore (withBytes (w .store) p 0 (newDevice p)) w))) → Safe P P′ (usbAllocateDevice >>= k) Q
-unfolding usbAllocateDevice _>>=_ _>>_ look when throw skip putBytes change return
-allocates {P} {P′} {Q} weaker k h = record { run = λ w i. go w i (firstUnused (w .store)) refl (eqb (firstUnused (w .store)) 32) refl }
+unfolding _>>=_
+allocates {P} {P′} {Q} weaker k h = record { run = λ w i. go w i (allocate-ends w) }
   where
-    go : (w : World) → P w → (p : ℕ) → p ≡ firstUnused (w .store) → (b : Bool) → eqb p 32 ≡ b → Left P′ Q (on (on (cond b (throw {A = Unit {0}} BusFull) skip w) (λ _. putBytes p 0 (newDevice p) >> return p)) k)
-    go w i p e true t = is-failed (weaker w i)
-    go w i p e false t = h w i p e (omega (arith, eqb-false p 32 t, e, first-most (w .store)))
+    go : (w : World) → P w → {r : Ran World ℕ} → Allocates w r → Left P′ Q (on r k)
+    go w i bus-full = is-failed (weaker w i)
+    go w i (allocated {p} e inside) = h w i p e inside
 
 -- for a child at a port that has none: the place and the hub's byte are written as one step
 allocates-child : {A : Type 0} {Q : A → Type 0} {k : ℕ → M A} {t : List ℕ} {hub port : ℕ} → At t hub 1 → port < 10 → byteAt t hub (Child port) ≡ 0

@@ -2,7 +2,7 @@
 -- actions that the calls logged, joined in order, each request with its outcome and result". The newest action stands first.
 use mathlib.Core.Bool.{Bool, false, cond, _&&_}
 use mathlib.Core.List.{List, [], _∷_}
-use Prim.Native.Nat.{ℕ, zero, suc, _+_, min}
+use Prim.Native.Nat.{ℕ, zero, suc, _+_}
 use lib.Dec.{eqb}
 use lib.ListN.{getD, take, drop}
 use Rattle.usb_types.specs.Actions.{ActionLength}
@@ -11,7 +11,7 @@ use Rattle.usb_types.specs.Outcomes.{resultOf}
 use Rattle.usb_types.specs.Requests.{SetFeature, SetAddress, SetConfiguration, ToDevice, ToPort}
 use Rattle.usb_types.specs.declared.request.UsbDeviceRequest.{UsbDeviceRequest}
 use Rattle.usb_model.specs.Features.{PORT-RESET}
-use Rattle.usb_model.specs.Transfer.{Outcome}
+use Rattle.usb_model.specs.Transfer.{Outcome, sizeOf, outcomeOf}
 use Rattle.usb_model.specs.Hub.{isOk}
 
 -- what an action of the log was: a request, with the address it was sent to and its outcome; a wait, in microseconds;
@@ -31,18 +31,6 @@ requestOf setup = record {
   value = fromLittleEndian (take 2 (drop 2 setup));
   index = fromLittleEndian (take 2 (drop 4 setup));
   length = fromLittleEndian (take 2 (drop 6 setup));
-}
-
--- "bytes 2-3 the length"
-unfoldable pub sizeOf : List ℕ → ℕ
-sizeOf outcomes = fromLittleEndian (take 2 (drop 2 outcomes))
-
--- the first of some outcomes, for a request that asks for so many bytes: "deliver the first min(length, asked) bytes"
-unfoldable pub outcomeOf : ℕ → List ℕ → Outcome
-outcomeOf most outcomes = record {
-  submit = getD outcomes 0 0;
-  error = getD outcomes 1 0;
-  delivered = take (min (sizeOf outcomes) most) (drop 4 outcomes);
 }
 
 -- the history so far, and the outcomes that are left

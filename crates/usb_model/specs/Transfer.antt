@@ -31,17 +31,31 @@ taken n w = record {
   at = record { logged = w .at .logged; taken = w .at .taken + n; requests = w .at .requests };
 }
 
--- "An outcome with fewer than 4 header bytes is −14, then −13 is tested, then missing data is −14"; "bytes 2-3 the length, then
--- that many data bytes"; "deliver the first min(length, asked) bytes"
+-- what is left of the outcomes
+abbrev pub outcomesLeft : World → List ℕ
+outcomesLeft w = drop (w .at .taken) (w .outcomes)
+
+-- "bytes 2-3 the length, then that many data bytes", of the first of some outcomes
+abbrev pub sizeOf : List ℕ → ℕ
+sizeOf outcomes = fromLittleEndian (take 2 (drop 2 outcomes))
+
+-- that outcome, for a request that asks for so many bytes: "deliver the first min(length, asked) bytes"
+abbrev pub outcomeOf : ℕ → List ℕ → Outcome
+outcomeOf asked outcomes = record {
+  submit = getD outcomes 0 0;
+  error = getD outcomes 1 0;
+  delivered = take (min (sizeOf outcomes) asked) (drop 4 outcomes);
+}
+
+-- "An outcome with fewer than 4 header bytes is −14, then −13 is tested, then missing data is −14"
 unfoldable pub takeOutcome : ℕ → M Outcome
 takeOutcome asked = do
-  rest ← look (λ w. drop (w .at .taken) (w .outcomes))
-  when (ltb (length rest) 4) (stop OutcomesSpent)
-  when (not (listed (getD rest 0 0) (getD rest 1 0))) (stop GarbledOutcome)
-  let size = fromLittleEndian (take 2 (drop 2 rest))
-  when (ltb (length rest) (4 + size)) (stop OutcomesSpent)
-  change (taken (4 + size))
-  return (record { submit = getD rest 0 0; error = getD rest 1 0; delivered = take (min size asked) (drop 4 rest) })
+  outcomes ← look outcomesLeft
+  when (ltb (length outcomes) 4) (stop OutcomesSpent)
+  when (not (listed (getD outcomes 0 0) (getD outcomes 1 0))) (stop GarbledOutcome)
+  when (ltb (length outcomes) (4 + sizeOf outcomes)) (stop OutcomesSpent)
+  change (taken (4 + sizeOf outcomes))
+  return (outcomeOf asked outcomes)
 
 -- where delivered bytes go: at most `room` of them, to a field of the device
 abbrev pub into : ℕ → ℕ → Buffer

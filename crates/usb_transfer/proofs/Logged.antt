@@ -1,19 +1,18 @@
 -- The ways through the functions of the log, over plain values. Assumes nothing.
 use mathlib.Core.Path.{_≡_, refl, sym, ap, _∙_}
-use mathlib.Core.Bool.{Bool, true, false, cond}
 use mathlib.Core.List.{List, []}
 use Prim.Native.Nat.{ℕ, _+_, _-_, _≤_, _<_}
 use native.Mathlib.Omega.{arith}
 use borrow.Author.Tests.{lt-ltb, le-ltb}
-use lib.Dec.{ltb}
 use lib.ListN.{length}
 use Rattle.usb_types.specs.declared.types.Halt.the-variants.{LogFull}
 use Rattle.usb_types.specs.declared.types.Answer.{Answer}
 use Rattle.usb_types.specs.declared.types.Answer.the-variants.{Ok, Stop}
 use Rattle.usb_store.specs.Access.{write}
 use Rattle.usb_model.specs.declared.Progress.{Progress}
-use Rattle.usb_model.specs.Programs.{Ran, done, fail, halt, on, _>>=_, _>>_, stop, skip, look, change, when}
-use Rattle.usb_model.specs.World.{World, M, logAction, logRequest, appended, counted}
+use Rattle.usb_model.specs.Programs.{Ran, done, _>>=_, _>>_, stop, skip, look, change, when, endOf}
+use Rattle.usb_model.specs.World.{World, M, logAction, logRequest, counted}
+use Rattle.usb_model.proofs.Ways.{Logs, full, logged as was-logged, log-ends}
 use Rattle.usb_transfer.specs.Runs.{here, Fit, Ends, Room, Writes}
 use Rattle.usb_transfer.proofs.Steps.{NotOk, then-is, on-ended}
 
@@ -34,23 +33,12 @@ module _ (l : List ℕ) (at : Progress) (action : List ℕ) (r : Room l at) wher
 -- where an action was logged
 logged-at : (action l l′ : List ℕ) (at at′ : Progress) → logAction action (here [] l [] at) ≡ done tt (here [] l′ [] at′)
     → at′ ≡ record { logged = at .logged + 16; taken = at .taken; requests = at .requests }
-unfolding logAction _>>=_ _>>_ look when stop skip change
-logged-at action l l′ at at′ e = go (ltb (length l - at .logged) 16) e
+logged-at action l l′ at at′ e = go (log-ends action (here [] l [] at)) e
   where
-    endAt : Ran World (Unit {0}) → Progress
-    endAt (done a w) = w .at
-    endAt (fail e w) = w .at
-    endAt (halt h w) = w .at
-
-    ends : Ran World (Unit {0}) → ℕ
-    ends (done a w) = 0
-    ends (fail e w) = 1
-    ends (halt h w) = 1
-
-    go : (full : Bool) → on (cond full (stop {A = Unit {0}} LogFull) skip (here [] l [] at)) (λ _. change (appended action)) ≡ done tt (here [] l′ [] at′)
+    go : {r : Ran World (Unit {0})} → Logs action (here [] l [] at) (at .requests) r → r ≡ done tt (here [] l′ [] at′)
         → at′ ≡ record { logged = at .logged + 16; taken = at .taken; requests = at .requests }
-    go true e = let z : _≡_ {A = ℕ} 1 0 = ap ends e in absurd (omega arith)
-    go false e = sym (ap endAt e)
+    go full e = let z : _≡_ {A = ℕ} 0 1 = cc in absurd (omega arith)
+    go (was-logged room) e = sym (ap (λ (r : Ran World (Unit {0})). endOf r .at) e)
 
 module _ (l : List ℕ) (at : Progress) (action l′ : List ℕ) (at′ : Progress) where
   pub request-ended : (a : Answer) → Writes (logAction action) l at a l′ at′ → NotOk a → Writes (logRequest action) l at a l′ at′

@@ -11,14 +11,12 @@ use lib.Seq.{take-all}
 use Rattle.usb_types.specs.Outcomes.{listed}
 use Rattle.usb_types.specs.declared.types.Halt.the-variants.{GarbledOutcome, OutcomesSpent}
 use Rattle.usb_model.specs.Programs.{_>>=_, _>>_, return, stop, skip, look, change, when}
-use Rattle.usb_model.specs.Transfer.{takeOutcome}
-use Rattle.usb_model.specs.History.{sizeOf}
+use Rattle.usb_model.specs.Transfer.{sizeOf, takeOutcome}
 use Rattle.usb_transfer.specs.declared.outcome.NextOutcome.{NextOutcome}
 use Rattle.usb_transfer.specs.declared.outcome.NextOutcome.the-variants.{Whole, Missing}
 use Rattle.usb_transfer.specs.Outcomes.{Takes}
 
 pub size-is : (rest : List ℕ) → 4 ≤ length rest → sizeOf rest ≡ getD rest 2 0 + getD rest 3 0 * 256
-unfolding sizeOf
 size-is [] h = absurd (omega arith)
 size-is (a ∷ []) h = absurd (omega arith)
 size-is (a ∷ b ∷ []) h = absurd (omega arith)
@@ -55,12 +53,12 @@ module _ (rest : List ℕ) where
 
     module _ (g : listed (getD rest 0 0) (getD rest 1 0) ≡ true) where
       pub takes-cut : length rest < 4 + sizeOf rest → Takes rest (Missing OutcomesSpent)
-      unfolding takeOutcome _>>=_ _>>_ look when stop skip sizeOf
+      unfolding takeOutcome _>>=_ _>>_ look when stop skip
       takes-cut l = record { is = λ asked w e. simp (e, le-ltb _ _ h, g, lt-ltb _ _ l); good = tt }
 
       pub takes-whole : 4 + sizeOf rest ≤ length rest → sizeOf rest < 65536
           → Takes rest (Whole (record { submit = getD rest 0 0; error = getD rest 1 0; size = sizeOf rest }))
-      unfolding takeOutcome _>>=_ _>>_ look when skip change return sizeOf
+      unfolding takeOutcome _>>=_ _>>_ look when skip change return
       takes-whole l small = record {
         is = λ asked w e. simp (e, le-ltb _ _ h, g, le-ltb _ _ l);
         good = record { submit = listed-submit _ _ g; error = listed-error _ _ g; small = small; inside = l };

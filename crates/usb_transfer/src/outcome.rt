@@ -5,7 +5,7 @@ use usb_types::types::wide;
 ghost use mathlib.Core.Path.{_≡_};
 ghost use Prim.Native.Nat.{_+_, _≤_, _<_, min};
 ghost use lib.ListN.{length};
-ghost use Rattle.usb_model.specs.History.{sizeOf};
+ghost use Rattle.usb_model.specs.Transfer.{sizeOf};
 ghost use Rattle.usb_transfer.specs.Outcomes.{Takes};
 ghost use Rattle.usb_transfer.specs.Runs.{dataOf};
 
