@@ -6,10 +6,10 @@ use native.Mathlib.Omega.{arith}
 use borrow.Author.Tests.{eq-eqb, ne-eqb}
 use lib.ListN.{length, getD, take, drop, set, replicate, length-replicate}
 use lib.Seq.{drop-drop, getD-drop}
-use Rattle.usb_store.specs.Layout.{StoreLength}
+use Rattle.usb_store.specs.Layout.{StoreLength, emptyStore}
 use Rattle.usb_store.specs.Access.{write}
 use Rattle.recorded.specs.Numbers.{numberIn}
-use Rattle.recorded.specs.Stores.{resized, edited, emptyStore, storeBefore, oldStore, storeAfter}
+use Rattle.recorded.specs.Stores.{resized, edited, storeBefore, oldStore, storeAfter}
 use Rattle.recorded.specs.declared.head.Asked.{Asked}
 
 -- what lies past the end of a list is not written
@@ -61,12 +61,11 @@ edit-start n edits s = let all : n - 0 ≡ n = omega arith in ap (λ (m : ℕ). 
 -- ---- the sequence's store
 
 pub empty-long : (l : List ℕ) → l ≡ emptyStore → length l ≡ StoreLength
-unfolding emptyStore
 empty-long l e = ap length e ∙ length-replicate {A = ℕ} StoreLength 0
 
 module _ (asked : Asked) (s : List ℕ) where
   pub begins : (s′ : List ℕ) → asked .flags % 2 ≡ 1 → length s ≡ StoreLength → s′ ≡ replicate (length s) 0 → s′ ≡ storeBefore asked s
-  unfolding storeBefore emptyStore
+  unfolding storeBefore
   begins s′ f l e = simp (eq-eqb _ _ f) (e ∙ ap (λ (n : ℕ). replicate n 0) l)
 
   pub goes-on : (asked .flags % 2 ≡ 1 → ⊥) → s ≡ storeBefore asked s

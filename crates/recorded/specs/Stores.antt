@@ -4,7 +4,7 @@ use mathlib.Core.List.{List}
 use Prim.Native.Nat.{ℕ, zero, suc, _/_, _%_}
 use lib.Dec.{eqb}
 use lib.ListN.{getD, drop, set, replicate}
-use Rattle.usb_store.specs.Layout.{StoreLength}
+use Rattle.usb_store.specs.Layout.{StoreLength, emptyStore}
 use Rattle.usb_store.specs.Access.{write}
 use Rattle.recorded.specs.Numbers.{numberIn}
 use Rattle.recorded.specs.declared.head.Asked.{Asked}
@@ -26,11 +26,7 @@ unfoldable pub edited : ℕ → List ℕ → List ℕ → List ℕ
 edited zero edits s = s
 edited (suc n) edits s = edited n (drop 5 edits) (set s (numberIn edits 0 4) (getD edits 4 0))
 
--- "the old store is 36,864 zeros"
-unfoldable pub emptyStore : List ℕ
-emptyStore = replicate StoreLength 0
-
--- the sequence's store before a call: the empty one where a new sequence begins
+-- the sequence's store before a call: where a new sequence begins, "the old store is 36,864 zeros"
 unfoldable pub storeBefore : Asked → List ℕ → List ℕ
 storeBefore asked s = cond (starts asked) emptyStore s
 

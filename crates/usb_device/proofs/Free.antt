@@ -23,7 +23,9 @@ unfolding firstUnusedFrom
 first-from s zero p h = absurd (omega arith)
 first-from s (suc n) p h = go (first-from s n (p + 1)) (eqb (byteAt s p Used) 0) refl h
   where
-    go : (firstUnusedFrom s n (p + 1) < p + 1 + n → byteAt s (firstUnusedFrom s n (p + 1)) Used ≡ 0) → (b : Bool) → eqb (byteAt s p Used) 0 ≡ b → cond b p (firstUnusedFrom s n (p + 1)) < p + suc n → byteAt s (cond b p (firstUnusedFrom s n (p + 1))) Used ≡ 0
+    go : (firstUnusedFrom s n (p + 1) < p + 1 + n → byteAt s (firstUnusedFrom s n (p + 1)) Used ≡ 0) → (b : Bool)
+        → eqb (byteAt s p Used) 0 ≡ b → cond b p (firstUnusedFrom s n (p + 1)) < p + suc n
+        → byteAt s (cond b p (firstUnusedFrom s n (p + 1))) Used ≡ 0
     go rest true e l = eqb-true (byteAt s p Used) 0 e
     go rest false e l = rest (omega arith)
 
@@ -89,7 +91,8 @@ module _ (s t : List ℕ) where
   free-agree (suc n) same = rw (same n (omega arith), free-agree n (λ p h. same p (omega arith)))
 
   -- where one more place is used there is one free place less
-  pub free-less : (p n : ℕ) → p < n → byteAt s p Used ≡ 0 → byteAt t p Used ≢ 0 → ((q : ℕ) → q < n → q ≢ p → byteAt t q Used ≡ byteAt s q Used)
+  pub free-less : (p n : ℕ) → p < n → byteAt s p Used ≡ 0 → byteAt t p Used ≢ 0
+      → ((q : ℕ) → q < n → q ≢ p → byteAt t q Used ≡ byteAt s q Used)
       → freeBelow t n + 1 ≡ freeBelow s n
   unfolding freeBelow
   free-less p zero h was is same = absurd (omega arith)
@@ -116,7 +119,8 @@ free-field s p f vs above room = free-agree s (withBytes s p f vs) 32 (λ q h. b
     apart q (no l) = inr (omega arith)
 
 -- a byte of a new device
-pub new-byte : (s : List ℕ) (p f : ℕ) → length s ≡ 36864 → p < 32 → f < 1152 → byteAt (withBytes s p 0 (newDevice p)) p f ≡ getD (newDevice p) f 0
+pub new-byte : (s : List ℕ) (p f : ℕ) → length s ≡ 36864 → p < 32 → f < 1152
+    → byteAt (withBytes s p 0 (newDevice p)) p f ≡ getD (newDevice p) f 0
 unfolding newDevice
 new-byte s p f whole inside h =
     rw zero-add at (byte-of-bytes (withBytes s p 0 (newDevice p)) p 0 1152 f h)
@@ -128,9 +132,11 @@ unfolding newDevice
 new-used s p whole inside = new-byte s p Used whole inside (omega arith)
 
 -- a new device at an unused place takes it
-pub free-taken : (s : List ℕ) (p : ℕ) → length s ≡ 36864 → p < 32 → byteAt s p Used ≡ 0 → freePlaces (withBytes s p 0 (newDevice p)) + 1 ≡ freePlaces s
+pub free-taken : (s : List ℕ) (p : ℕ) → length s ≡ 36864 → p < 32 → byteAt s p Used ≡ 0
+    → freePlaces (withBytes s p 0 (newDevice p)) + 1 ≡ freePlaces s
 free-taken s p whole inside was =
-    free-less s (withBytes s p 0 (newDevice p)) p 32 inside was (λ z. omega (arith, new-used s p whole inside)) (λ q h ne. byte-other s p 0 (newDevice p) q Used (apart q ne (decLt p q)))
+    free-less s (withBytes s p 0 (newDevice p)) p 32 inside was (λ z. omega (arith, new-used s p whole inside))
+    (λ q h ne. byte-other s p 0 (newDevice p) q Used (apart q ne (decLt p q)))
   where
     apart : (q : ℕ) → q ≢ p → Dec (p < q) → Apart p 0 (length (newDevice p)) q Used 1
     apart q ne (yes l) = inl (omega (arith, length-new p))

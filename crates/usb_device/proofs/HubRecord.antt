@@ -50,7 +50,8 @@ pub filled-all : {f : ℕ → ℕ} {vs : List ℕ} {n : ℕ} → 10 ≤ n → Fi
 filled-all {f} {vs} all filled = ten-is f vs (filled .long) (λ port h. sym (filled .first port (omega arith)))
 
 -- the status and the child of a port, as the code reads them
-pub status-at : (s : List ℕ) (place port : ℕ) → port < 10 → getD (hubAt s place .«port_status») port 0 ≡ numberAt s place (PortStatus port) 4
+pub status-at : (s : List ℕ) (place port : ℕ) → port < 10
+    → getD (hubAt s place .«port_status») port 0 ≡ numberAt s place (PortStatus port) 4
 unfolding hubAt
 status-at s place port h = ten-at (λ q. numberAt s place (PortStatus q) 4) port h
 
@@ -67,14 +68,16 @@ statuses-length s place port (v ∷ vs) =
     statuses-length (withNumber s place (PortStatus port) 4 v) place (port + 1) vs ∙ with-length s place (PortStatus port) (littleEndian 4 v)
 
 -- the status of a port before them is as it was
-statuses-before : (vs s : List ℕ) (place port q : ℕ) → q < port → numberAt (withStatuses s place port vs) place (PortStatus q) 4 ≡ numberAt s place (PortStatus q) 4
+statuses-before : (vs s : List ℕ) (place port q : ℕ) → q < port
+    → numberAt (withStatuses s place port vs) place (PortStatus q) 4 ≡ numberAt s place (PortStatus q) 4
 unfolding withStatuses
 statuses-before [] s place port q h = refl
 statuses-before (v ∷ vs) s place port q h =
     statuses-before vs (withNumber s place (PortStatus port) 4 v) place (port + 1) q (omega arith)
     ∙ number-other s place (PortStatus port) (littleEndian 4 v) place (PortStatus q) 4 (inr (omega arith))
 
-statuses-same : (vs s : List ℕ) (place port k : ℕ) → length s ≡ 36864 → place < 32 → port + length vs ≤ 10 → ((i : ℕ) → getD vs i 0 < 256 ^ 4) → k < length vs
+statuses-same : (vs s : List ℕ) (place port k : ℕ) → length s ≡ 36864 → place < 32 → port + length vs ≤ 10
+    → ((i : ℕ) → getD vs i 0 < 256 ^ 4) → k < length vs
     → numberAt (withStatuses s place port vs) place (PortStatus (port + k)) 4 ≡ getD vs k 0
 unfolding withStatuses
 statuses-same [] s place port k whole inside room fits h = absurd (omega arith)
@@ -123,7 +126,8 @@ module _ (s : List ℕ) (place : ℕ) (h : HubDevice) (whole : length s ≡ 3686
 
   max-back : byteAt (withHub s place h) place MaxChildren ≡ h .«max_children»
   unfolding withHub
-  max-back = byte-same with-children place MaxChildren (h .«max_children») (record { whole = children-whole; inside = inside; room = omega arith })
+  max-back =
+      byte-same with-children place MaxChildren (h .«max_children») (record { whole = children-whole; inside = inside; room = omega arith })
 
   -- loading what was stored gives it back
   pub load-stored : hubAt (withHub s place h) place ≡ h

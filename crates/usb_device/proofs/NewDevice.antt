@@ -33,7 +33,8 @@ module _ (place : ℕ) {zeros interfaces : List ℕ} (e : zeros ≡ replicate 11
 
 -- the bytes of the place were lent
 pub put-new : (s : List ℕ) (place : ℕ) {vs : List ℕ} → length s ≡ StoreLength → place < Places → vs ≡ newDevice place
-    → take (place * PlaceLength) s ++ (vs ++ drop (place * PlaceLength + PlaceLength - place * PlaceLength) (drop (place * PlaceLength) s)) ≡ withBytes s place 0 (newDevice place)
+    → take (place * PlaceLength) s ++ (vs ++ drop (place * PlaceLength + PlaceLength - place * PlaceLength)
+    (drop (place * PlaceLength) s)) ≡ withBytes s place 0 (newDevice place)
 unfolding withBytes
 put-new s place e h new =
     let span : place * PlaceLength + PlaceLength - place * PlaceLength ≡ PlaceLength = omega arith in

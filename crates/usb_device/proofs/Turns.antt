@@ -45,10 +45,12 @@ module _ (s : List ℕ) (place : ℕ) (h : place < 32) where
   turn = let left : 32 - place ≡ suc (32 - (place + 1)) = omega arith in rw left
 
   pub unused-found : byteAt s place Used ≡ 0 → firstUnusedFrom s (32 - place) place ≡ place
-  unused-found e = turn ∙ ap (λ (b : Bool). cond b place (firstUnusedFrom s (32 - (place + 1)) (place + 1))) (eq-eqb (byteAt s place Used) 0 e)
+  unused-found e =
+      turn ∙ ap (λ (b : Bool). cond b place (firstUnusedFrom s (32 - (place + 1)) (place + 1))) (eq-eqb (byteAt s place Used) 0 e)
 
   pub unused-next : (byteAt s place Used ≡ 0 → ⊥) → firstUnusedFrom s (32 - place) place ≡ firstUnusedFrom s (32 - (place + 1)) (place + 1)
-  unused-next e = turn ∙ ap (λ (b : Bool). cond b place (firstUnusedFrom s (32 - (place + 1)) (place + 1))) (ne-eqb (byteAt s place Used) 0 e)
+  unused-next e =
+      turn ∙ ap (λ (b : Bool). cond b place (firstUnusedFrom s (32 - (place + 1)) (place + 1))) (ne-eqb (byteAt s place Used) 0 e)
 
 pub unused-end : (s : List ℕ) (place : ℕ) → place ≡ 32 → firstUnusedFrom s (32 - place) place ≡ 32
 unfolding firstUnusedFrom

@@ -22,9 +22,7 @@ pub const FULL: u8 = 1;
 
 pub const LOW: u8 = 2;
 
-// UsbDeviceStatus.
-pub const ATTACHED: u8 = 0;
-
+// UsbDeviceStatus. A new device is attached: 0.
 pub const POWERED: u8 = 1;
 
 pub const DEFAULT: u8 = 2;

@@ -119,7 +119,8 @@ module _ {h₀ : List Event} (H : ℕ → Type 0) (x : ℕ) (inside : x < 32) wh
       let o = u .outcome in
       let a = u .answered in
       mid-event x (asked 0 (addressOf x) o) (address-aside x o) (λ q g k. a .keep q g (spared-key k)) (a .past)
-      (count-hit (setsAddress (x + 1)) _ (a .before .past) (address-event (x + 1) x o ∙ own-address x (acknowledged o) ∙ u .good) ∙ ap suc (a .pre .addressings))
+      (count-hit (setsAddress (x + 1)) _ (a .before .past) (address-event (x + 1) x o ∙ own-address x (acknowledged o) ∙ u .good)
+      ∙ ap suc (a .pre .addressings))
       (count-miss (configures (x + 1)) _ (a .before .past) (address-configures (x + 1) x o) ∙ a .pre .configurings)
       (λ hub port r. now (Claim.addressed r (u .good))) (a .pre)
 
@@ -130,21 +131,28 @@ module _ {h₀ : List Event} (H : ℕ → Type 0) (x : ℕ) (inside : x < 32) wh
   pub own-same : (f v : ℕ) (s : State h₀) → f < 1152 → byteAt (withByte (store s) x f v) x f ≡ v
   own-same f v s l = byte-same (store s) x f v (record { whole = s .good .whole; inside = inside; room = omega arith })
 
-  pub own-other : (f v g : ℕ) (s : State h₀) → f < 1152 → g < 1152 → (f + 1 ≤ g) ⊎ (g < f) → byteAt (withByte (store s) x f v) x g ≡ byteAt (store s) x g
+  pub own-other : (f v g : ℕ) (s : State h₀) → f < 1152 → g < 1152 → (f + 1 ≤ g) ⊎ (g < f)
+      → byteAt (withByte (store s) x f v) x g ≡ byteAt (store s) x g
   own-other f v g s l m a = byte-other (store s) x f (v ∷ []) x g (spot-apart x f 1 x g (omega arith) m (λ _. a))
 
   module _ {R : ℕ → ℕ → List Event → Type 0} {st n c d : ℕ} {N : State h₀ → Type 0} where
     pub put-number : (v : ℕ) → v < 256 → Does (Mid H x R st n c d) (put x Number v) (λ _. Mid H x R st v c d) N
     unfolding put
     put-number v l = does-store (λ t. withByte t x Number v) (λ s m.
-        let w = own-follows Number v s (omega arith) (omega arith) l in
-        (w, mid-write x st v Number (v ∷ []) w (omega arith) (omega arith) (inl (omega arith)) (own-other Number v Status s (omega arith) (omega arith) (inl (omega arith)) ∙ m .status) (own-same Number v s (omega arith)) m))
+        let w = own-follows Number v s (omega arith) (omega arith) l in (
+          w,
+          mid-write x st v Number (v ∷ []) w (omega arith) (omega arith) (inl (omega arith))
+              (own-other Number v Status s (omega arith) (omega arith) (inl (omega arith)) ∙ m .status) (own-same Number v s (omega arith)) m,
+        ))
 
     pub put-status : (v : ℕ) → v < 256 → Does (Mid H x R st n c d) (put x Status v) (λ _. Mid H x R v n c d) N
     unfolding put
     put-status v l = does-store (λ t. withByte t x Status v) (λ s m.
-        let w = own-follows Status v s (omega arith) (omega arith) l in
-        (w, mid-write x v n Status (v ∷ []) w (omega arith) (omega arith) (inl (omega arith)) (own-same Status v s (omega arith)) (own-other Status v Number s (omega arith) (omega arith) (inr (omega arith)) ∙ m .number) m))
+        let w = own-follows Status v s (omega arith) (omega arith) l in (
+          w,
+          mid-write x v n Status (v ∷ []) w (omega arith) (omega arith) (inl (omega arith)) (own-same Status v s (omega arith))
+              (own-other Status v Number s (omega arith) (omega arith) (inr (omega arith)) ∙ m .number) m,
+        ))
 
   pub set-address-does : Does Unaddressed (usbSetAddress x (x + 1)) (λ _. At Addressed (x + 1)) Unaddressed
   unfolding usbSetAddress
@@ -152,9 +160,13 @@ module _ {h₀ : List Event} (H : ℕ → Type 0) (x : ℕ) (inside : x < 32) wh
       does-known _ x Status Default (λ s m. m .status) (
       does-next (does-unless (not (eqb Default Default)) _ (λ s m. m)) (
       does-pre (λ s m. m .0) (
-      does-next (does-map (λ s p. p) (λ _ t u. hit t u) missed (message-does Keys x (addressOf x) nowhere (sends-none head-keys ToDevice SetAddress (x + 1) 0 (omega arith) (omega arith) (omega arith) (omega arith) 0 (omega arith)) 0 (omega arith))) (
+      does-next (does-map (λ s p. p) (λ _ t u. hit t u) missed
+      (message-does Keys x (addressOf x) nowhere (sends-none head-keys ToDevice SetAddress (x + 1) 0 (omega arith) (omega arith)
+      (omega arith) (omega arith) 0 (omega arith)) 0 (omega arith))) (
       does-next (does-map (λ s p. p) (λ _ t a. ticked t a) (λ t u. u) (wait-adds {P = At Default 0} {N = Unaddressed} 10000 (omega arith))) (
       does-next (put-number (x + 1) (omega arith)) (put-status Addressed (omega arith)))))))
     where
       ticked : (t : State h₀) → Added (At Default 0) (waited 10000) t → At Default 0 t
-      ticked t a = mid-still x address-stable (record { keep = λ q g k. ap (λ (l : List ℕ). byteAt l q g) (a .same); past = adds-one (still-wait 10000) (a .past) }) (a .pre)
+      ticked t a =
+          mid-still x address-stable
+          (record { keep = λ q g k. ap (λ (l : List ℕ). byteAt l q g) (a .same); past = adds-one (still-wait 10000) (a .past) }) (a .pre)

@@ -58,7 +58,8 @@ module _ {k : Known} where
   writes f h = changes _ (λ w n. let r = h (w .store) n in record { holds = r .knows; paid = omega (arith, r .gain) })
 
   -- the store is left as it is
-  leaves : (n : ℕ) (f : World → World) → ((w : World) → f w .store ≡ w .store) → ((w : World) → f w .at .requests ≤ w .at .requests + n) → Keeps k n (change f)
+  leaves : (n : ℕ) (f : World → World) → ((w : World) → f w .store ≡ w .store) → ((w : World) → f w .at .requests ≤ w .at .requests + n)
+      → Keeps k n (change f)
   leaves n f same sent = changes f (λ w h. rw (same w) (record { holds = h; paid = omega (arith, sent w) }))
 
   pub gets : (p f : ℕ) → Keeps k 0 (get p f)
@@ -79,7 +80,8 @@ module _ {k : Known} where
 
   puts-number : (p f n v : ℕ) → Plain f n → Keeps k 0 (putNumber p f n v)
   unfolding putNumber
-  puts-number p f n v r = writes (λ s. withNumber s p f n v) (λ s h. plain-writes h p f (littleEndian n v) (plain-less (omega (arith, length-le n v)) r))
+  puts-number p f n v r =
+      writes (λ s. withNumber s p f n v) (λ s h. plain-writes h p f (littleEndian n v) (plain-less (omega (arith, length-le n v)) r))
 
   logs : (action : List ℕ) → Keeps k 0 (logAction action)
   unfolding logAction
@@ -124,7 +126,8 @@ module _ {k : Known} where
   unfolding read
   reads p q minimum fits = bind (controls p q fits) λ bytes. next (whens _ (throws _)) (gives bytes)
 
-  descriptors : (p recipient type index size minimum : ℕ) {b : Buffer} → Fits b → Keeps k 1 (usbGetDescriptor p recipient type index size minimum b)
+  descriptors : (p recipient type index size minimum : ℕ) {b : Buffer} → Fits b
+      → Keeps k 1 (usbGetDescriptor p recipient type index size minimum b)
   unfolding usbGetDescriptor
   descriptors p recipient type index size minimum fits = reads p _ minimum fits
 
@@ -159,7 +162,8 @@ module _ {k : Known} where
       bind (gets-number p _ 2) λ total. bind (descriptors p _ _ _ total total none) λ full.
       next (puts p _ _ (small ConfigurationIndex (omega arith))) (looks _ _ λ w n.
       let kept = bytesAt (w .store) p Interfaces RecordLength in
-      next (puts-bytes p _ RecordLength _ (high Interfaces RecordLength (omega arith)) (omega (arith, walk-long full kept, bytes-most (w .store) p Interfaces RecordLength))) (
+      next (puts-bytes p _ RecordLength _ (high Interfaces RecordLength (omega arith))
+      (omega (arith, walk-long full kept, bytes-most (w .store) p Interfaces RecordLength))) (
       next (succeeds _) (bind (gets p _) λ value. set-configure p value)))))
 
   -- ---- device/hub.rs
@@ -190,7 +194,9 @@ module _ {k : Known} where
   unfolding awaitReset
   await-reset zero p port h = gives false
   await-reset (suc n) p port h = more (suc n)
-      (next (waits _) (next (port-get-status p port h) (bind (port-status p port) λ status. either (bit C-PORT-RESET status) (more n (gives true) (omega arith)) (await-reset n p port h)))) (omega arith)
+      (next (waits _) (next (port-get-status p port h)
+      (bind (port-status p port) λ status. either (bit C-PORT-RESET status) (more n (gives true) (omega arith)) (await-reset n p port h))))
+      (omega arith)
 
   pub reset2 : (p port : ℕ) → port < 10 → Keeps k 24 (hubPortReset2 p port)
   unfolding hubPortReset2
@@ -212,5 +218,6 @@ pub read-hub-descriptor : (p : ℕ) → p < 32 → Keeps (place p false) 2 (hubR
 unfolding hubReadDescriptor put
 read-hub-descriptor p h =
     bind (descriptors p _ _ _ _ _ none) λ header. bind (gets p _) λ data′.
-    next (whens _ (next (writes (λ s. withByte s p Hub 2) (λ s n. hub-writes n 2 h (omega arith))) (puts-bytes p HubDescriptor 9 _ (low HubDescriptor 9 (omega arith)) (omega arith)))) (
+    next (whens _ (next (writes (λ s. withByte s p Hub 2) (λ s n. hub-writes n 2 h (omega arith)))
+    (puts-bytes p HubDescriptor 9 _ (low HubDescriptor 9 (omega arith)) (omega arith)))) (
     next (descriptors p _ _ _ _ _ (plain (low HubDescriptor 9 (omega arith)))) skips)

@@ -96,25 +96,32 @@ module _ {h₀ : List Event} where
             plain = λ _. u ∙ p .used;
             once = i .once ∙ ap expected (sym st);
             numbered = λ _. else-hub x Number (omega arith) (λ _. omega arith) ∙ p .number;
-            story = λ e. story-map x (λ h j. stands-kept hub-held) refl (λ P o. o) (else-hub x ConfigurationValue (omega arith) (λ _. omega arith)) (i .story (sym st ∙ e));
+            story = λ e. story-map x (λ h j. stands-kept hub-held) refl (λ P o. o)
+                (else-hub x ConfigurationValue (omega arith) (λ _. omega arith)) (i .story (sym st ∙ e));
           }) (λ l.
               let y = p .is-fine .inv .belongs (x + 1) (λ q e z. z) l in
               let e : y .0 ≡ x = omega (arith, y .1) in
               record {
-                device = record { inside = inside; used = u ∙ p .used };
+                device = (inside, u ∙ p .used);
                 status = st ∙ ap (λ (q : ℕ). byteAt (store s) q Status) (sym e) ∙ y .2 .status;
               });
           known = record {
-            hubs = λ q. ⊎-elim (λ h z. old-hub q h z (ℕ-discrete q x)) (λ e z. v-not (sym (byte-same (store s) x Hub v (record { whole = s .good .whole; inside = inside; room = omega arith })) ∙ ap (λ (k : ℕ). byteAt (withByte (store s) x Hub v) k Hub) (sym e) ∙ z));
+            hubs = λ q. ⊎-elim (λ h z. old-hub q h z (ℕ-discrete q x))
+                (λ e z. v-not (sym (byte-same (store s) x Hub v (record { whole = s .good .whole; inside = inside; room = omega arith }))
+                ∙ ap (λ (k : ℕ). byteAt (withByte (store s) x Hub v) k Hub) (sym e) ∙ z));
             first = λ q. ⊎-elim (λ h. omega (arith, hub-follows .first, p .is-fine .known .first q h)) (λ e. omega (arith, hub-follows .first, p .first, e));
           };
         }
       where
         old-hub : (q : ℕ) → H q → byteAt (withByte (store s) x Hub v) q Hub ≡ 0 → Dec (q ≡ x) → ⊥
-        old-hub q h z (yes e) = v-not (sym (byte-same (store s) x Hub v (record { whole = s .good .whole; inside = inside; room = omega arith })) ∙ ap (λ (k : ℕ). byteAt (withByte (store s) x Hub v) k Hub) (sym e) ∙ z)
+        old-hub q h z (yes e) =
+            v-not
+            (sym (byte-same (store s) x Hub v (record { whole = s .good .whole; inside = inside; room = omega arith }))
+            ∙ ap (λ (k : ℕ). byteAt (withByte (store s) x Hub v) k Hub) (sym e) ∙ z)
         old-hub q h z (no n) = p .is-fine .known .hubs q h (sym (else-hub q Hub (omega arith) (λ e. absurd (n e))) ∙ z)
 
-  put-hub : {H : ℕ → Type 0} {N : State h₀ → Type 0} {x : ℕ} (v : ℕ) → x < 32 → v < 256 → v ≢ 0 → Does (Hublike H x) (put x Hub v) (λ _. Fine (Also H x)) N
+  put-hub : {H : ℕ → Type 0} {N : State h₀ → Type 0} {x : ℕ} (v : ℕ) → x < 32 → v < 256 → v ≢ 0
+      → Does (Hublike H x) (put x Hub v) (λ _. Fine (Also H x)) N
   unfolding put
   put-hub {x = x} v inside l n = does-store (λ t. withByte t x Hub v) (λ s p. (hub-follows inside l n p, hub-fine inside l n p))
 
@@ -122,7 +129,8 @@ module _ {h₀ : List Event} where
   most-still : (x v : ℕ) → x < 32 → v ≤ 10 → Keeps {h₀ = h₀} Stilly (put x MaxChildren v)
   unfolding put
   most-still x v inside l = k-store (quiet-order Keys Still) (λ t. withByte t x MaxChildren v) (λ s.
-      let w = most-follows (s .good) x v inside l in (w, write-quiet Keys Still s x MaxChildren (v ∷ []) 1 w (keys-clear (last (omega arith) (omega arith))) (omega arith)))
+      let w = most-follows (s .good) x v inside l in
+      (w, write-quiet Keys Still s x MaxChildren (v ∷ []) 1 w (keys-clear (last (omega arith) (omega arith))) (omega arith)))
 
   -- ---- hub attach
 
@@ -136,12 +144,16 @@ module _ {h₀ : List Event} where
 
     header-still : Gives {h₀ = h₀} Stilly Bytes (usbGetDescriptor x ToHub 41 0 2 2 nowhere)
     unfolding usbGetDescriptor
-    header-still = read-quiet Keys x _ nowhere (sends-none head-keys ToHub GetDescriptor (41 * 256 + 0) 0 (omega arith) (omega arith) (omega arith) (omega arith) 2 (omega arith)) (still-hub-descriptor (41 * 256 + 0) 2) 2
+    header-still =
+        read-quiet Keys x _ nowhere
+        (sends-none head-keys ToHub GetDescriptor (41 * 256 + 0) 0 (omega arith) (omega arith) (omega arith) (omega arith) 2 (omega arith))
+        (still-hub-descriptor (41 * 256 + 0) 2) 2
 
     descriptor-still : (n : ℕ) → n < 256 → Gives {h₀ = h₀} Stilly Bytes (usbGetDescriptor x ToHub 41 0 n n (into HubDescriptor 9))
     unfolding usbGetDescriptor
     descriptor-still n l = read-quiet Keys x _ (into HubDescriptor 9)
-        (sends-into head-keys HubDescriptor 9 (keys-clear (fortieth (omega arith) (omega arith))) (omega arith) (omega arith) ToHub GetDescriptor (41 * 256 + 0) 0 n (omega arith) (omega arith) (omega arith) (omega arith) (omega arith))
+        (sends-into head-keys HubDescriptor 9 (keys-clear (fortieth (omega arith) (omega arith))) (omega arith) (omega arith) ToHub
+        GetDescriptor (41 * 256 + 0) 0 n (omega arith) (omega arith) (omega arith) (omega arith) (omega arith))
         (still-hub-descriptor (41 * 256 + 0) n) n
 
     descriptor-does : Does {h₀ = h₀} (Fine (Also H x)) (hubReadDescriptor x) (λ _. Fine (Also H x)) (Fine (Also H x))
@@ -156,11 +168,14 @@ module _ {h₀ : List Event} where
       where
         made : Does {h₀ = h₀} (Fine (Also H x)) (put x Hub WithDescriptor >> putBytes x HubDescriptor (blank 9)) (λ _. Fine (Also H x)) (Fine (Also H x))
         made = does-next
-            (does-pre hublike (does-map (λ s p. p) (λ _ s f. fine-less (λ q h. inl h) f) (λ s n. n) (put-hub {N = Fine (Also H x)} WithDescriptor inside (omega arith) (omega arith))))
-            (keeps-fine (Also H x) (bytes-quiet Keys Still x HubDescriptor 9 (blank 9) (keys-clear (fortieth (omega arith) (omega arith))) (record { past = omega arith; room = omega arith; apart = inl (omega arith) }) (omega arith) (bytes-blank 9)))
+            (does-pre hublike (does-map (λ s p. p) (λ _ s f. fine-less (λ q h. inl h) f) (λ s n. n)
+            (put-hub {N = Fine (Also H x)} WithDescriptor inside (omega arith) (omega arith))))
+            (keeps-fine (Also H x) (bytes-quiet Keys Still x HubDescriptor 9 (blank 9) (keys-clear (fortieth (omega arith) (omega arith)))
+            (record { past = omega arith; room = omega arith; apart = inl (omega arith) }) (omega arith) (bytes-blank 9)))
 
     module _ (attach : ℕ → M (Unit {0})) (enters : Enters h₀ attach) where
-      ports-does : Does {h₀ = h₀} (Fine (Also H x)) (get x MaxChildren >>= λ children. each children 0 (λ port. ignore (hubCheckConnection attach x port))) (λ _. Fine (Also H x)) (Fine (Also H x))
+      ports-does : Does {h₀ = h₀} (Fine (Also H x)) (get x MaxChildren >>= λ children. each children 0
+          (λ port. ignore (hubCheckConnection attach x port))) (λ _. Fine (Also H x)) (Fine (Also H x))
       ports-does =
           does-bind (does-get x MaxChildren) λ children.
           does-given (λ s p. subst (λ (n : ℕ). n ≤ 10) (sym (p .1)) (s .good .most x)) λ most.
@@ -175,7 +190,12 @@ module _ {h₀ : List Event} where
           does-next (does-unless _ _ (λ s p. p .0 .0 .0 .is-fine)) (
           does-bind (does-get x EndpointAttributes) λ attributes.
           does-next (does-unless _ _ (λ s p. p .0 .0 .0 .0 .0 .is-fine)) (
-          does-pre (λ s p. let y = p .0 .0 .0 .0 .0 .0 in record { is-fine = y .is-fine; number = y .settled-number; used = y .settled-use; first = y .settled-first }) (
+          does-pre (λ s p. let y = p .0 .0 .0 .0 .0 .0 in record {
+            is-fine = y .is-fine;
+            number = y .settled-number;
+            used = y .settled-use;
+            first = y .settled-first;
+          }) (
           does-next (put-hub WithoutDescriptor inside (omega arith) (omega arith)) (
           does-map (λ s p. p) (λ _ s f. fine-less (λ q h. inl h) f) (λ s f. fine-less (λ q h. inl h) f) (
           does-next (keeps-fine (Also H x) (most-still x 1 inside (omega arith))) (
@@ -189,12 +209,16 @@ module _ {h₀ : List Event} where
   -- ---- attach
 
   -- a part that keeps the place in the middle
-  keeps-mid : (H : ℕ → Type 0) (x : ℕ) {R : ℕ → ℕ → List Event → Type 0} {st n c d : ℕ} → Stable R → ((s : State h₀) → Mid H x R st n c d s → Fine H s) → {A : Type 0} {S : A → Type 0} {m : M A} → Gives {h₀ = h₀} Stilly S m → Does {h₀ = h₀} (Mid H x R st n c d) m (λ _. Mid H x R st n c d) (Fine H)
+  keeps-mid : (H : ℕ → Type 0) (x : ℕ) {R : ℕ → ℕ → List Event → Type 0} {st n c d : ℕ} → Stable R
+      → ((s : State h₀) → Mid H x R st n c d s → Fine H s) → {A : Type 0} {S : A → Type 0} {m : M A} → Gives {h₀ = h₀} Stilly S m
+      → Does {h₀ = h₀} (Mid H x R st n c d) m (λ _. Mid H x R st n c d) (Fine H)
   keeps-mid H x k f g = does-map (λ s p. p) (λ _ s q. q .0) (λ s n. n) (does-keep _ g (λ s t m r. mid-still x k r m) f)
 
   module _ (attach : ℕ → M (Unit {0})) (enters : Enters h₀ attach) (H : ℕ → Type 0) (x : ℕ) (inside : x < 32) where
     -- the rest, once the address is set
-    addressed-does : Does {h₀ = h₀} (At H x inside Addressed (x + 1)) (usbReadDeviceDescriptor x >> (usbConfigure x 0 >> (get x InterfaceClass >>= λ class. when (isHubClass class) (hubAttach attach x)))) (λ _. Fine H) (Fine H)
+    addressed-does : Does {h₀ = h₀} (At H x inside Addressed (x + 1))
+        (usbReadDeviceDescriptor x >> (usbConfigure x 0
+        >> (get x InterfaceClass >>= λ class. when (isHubClass class) (hubAttach attach x)))) (λ _. Fine H) (Fine H)
     addressed-does =
         does-next (keeps-mid H x address-stable (at-fine H x inside) (read-device-still x)) (
         does-next (configure-does H x inside) (
@@ -206,7 +230,9 @@ module _ {h₀ : List Event} where
 
     -- whatever came of SetAddress, the number is restored
     answered-does : (result : Answer) (b : Bool) → isOk result ≡ b
-        → Does {h₀ = h₀} (Attempted (At H x inside Addressed (x + 1)) (Unaddressed H x inside) result) (put x Number (x + 1) >> (succeed result >> (usbReadDeviceDescriptor x >> (usbConfigure x 0 >> (get x InterfaceClass >>= λ class. when (isHubClass class) (hubAttach attach x)))))) (λ _. Fine H) (Fine H)
+        → Does {h₀ = h₀} (Attempted (At H x inside Addressed (x + 1)) (Unaddressed H x inside) result)
+        (put x Number (x + 1) >> (succeed result >> (usbReadDeviceDescriptor x
+        >> (usbConfigure x 0 >> (get x InterfaceClass >>= λ class. when (isHubClass class) (hubAttach attach x)))))) (λ _. Fine H) (Fine H)
     answered-does result true e = does-pre (λ s a. a .ok e) (
         does-next (put-number H x inside (x + 1) (omega arith)) (
         does-next (does-succeed result (λ n. absurd (true≢false (sym e ∙ n)))) (does-pre (λ s p. p .0) addressed-does)))
@@ -214,7 +240,8 @@ module _ {h₀ : List Event} where
         does-next (put-number H x inside (x + 1) (omega arith)) (
         does-next (does-succeed result (λ n s m. unaddressed-fine s m)) (record { run = λ s p. absurd (true≢false (sym (p .1) ∙ e)) })))
 
-    pub attach-does : (st : ℕ) → st < 3 → Does {h₀ = h₀} (Mid H x AfterReset st (x + 1) 0 0) (usbAttachDevice attach x) (λ _. Fine H) (Fine H)
+    pub attach-does : (st : ℕ) → st < 3
+        → Does {h₀ = h₀} (Mid H x AfterReset st (x + 1) 0 0) (usbAttachDevice attach x) (λ _. Fine H) (Fine H)
     unfolding usbAttachDevice
     attach-does st l =
         does-known _ x Number (x + 1) (λ s m. m .number) (
@@ -225,7 +252,8 @@ module _ {h₀ : List Event} where
 
   pub attach-below-does : (free : ℕ) → Enters h₀ (attachBelow free)
   unfolding attachBelow
-  attach-below-does zero H x st inside l = does-map (λ s p. p) (λ _ s m. mid-fine x (omega arith) (early st l) m) (λ s n. n) (does-skip {N = Fine H})
+  attach-below-does zero H x st inside l =
+      does-map (λ s p. p) (λ _ s m. mid-fine x (omega arith) (early st l) m) (λ s n. n) (does-skip {N = Fine H})
   attach-below-does (suc free) H x st inside l = attach-does (attachBelow free) (attach-below-does free) H x inside st l
 
   -- ---- scan
@@ -240,7 +268,8 @@ module _ {h₀ : List Event} where
     its-child : child ≡ byteAt (store s) hub (Child port)
     its-hub : data′ ≡ byteAt (store s) (child - 1) Hub
 
-  found-fine : {H : ℕ → Type 0} {hub port child data′ : ℕ} → port < 10 → child ≢ 0 → data′ ≢ 0 → (s : State h₀) → Found H hub port child data′ s → Fine (Also H (child - 1)) s
+  found-fine : {H : ℕ → Type 0} {hub port child data′ : ℕ} → port < 10 → child ≢ 0 → data′ ≢ 0 → (s : State h₀)
+      → Found H hub port child data′ s → Fine (Also H (child - 1)) s
   found-fine {H} {hub} {port} {child} {data′} l c d s f =
       let above = s .good .child hub port l (λ z. c (f .its-child ∙ z)) in
       record {
@@ -252,11 +281,14 @@ module _ {h₀ : List Event} where
       }
 
   module _ (free : ℕ) where
-    scan-port-does : (below : ℕ → M (Unit {0})) → ((q : ℕ) (G : ℕ → Type 0) → G q → q < 32 → Does {h₀ = h₀} (Fine G) (below q) (λ _. Fine G) (Fine G)) → (hub port : ℕ) (H : ℕ → Type 0) → H hub → hub < 32 → port < 10
+    scan-port-does : (below : ℕ → M (Unit {0}))
+        → ((q : ℕ) (G : ℕ → Type 0) → G q → q < 32 → Does {h₀ = h₀} (Fine G) (below q) (λ _. Fine G) (Fine G))
+        → (hub port : ℕ) (H : ℕ → Type 0) → H hub → hub < 32 → port < 10
         → Does {h₀ = h₀} (Fine H) (scanPort (attachBelow free) below hub port) (λ _. Fine H) (Fine H)
     unfolding scanPort
     scan-port-does below scans hub port H h l m =
-        does-bind (does-map (λ s p. p) (λ r s a. either-fine r s a (isOk r) refl) (λ s n. n) (does-attempt {N = Fine H} (check-does H hub port h l m (attachBelow free) (attach-below-does free)))) λ result.
+        does-bind (does-map (λ s p. p) (λ r s a. either-fine r s a (isOk r) refl) (λ s n. n)
+        (does-attempt {N = Fine H} (check-does H hub port h l m (attachBelow free) (attach-below-does free)))) λ result.
         does-bind (does-get hub (Child port)) λ child.
         does-bind (does-get (child - 1) Hub) λ data′.
         does-pre {P = Found H hub port child data′} (λ s p. record { is-fine = p .0 .0; its-child = p .0 .1; its-hub = p .1 }) (
@@ -265,16 +297,19 @@ module _ {h₀ : List Event} where
         let c = eqb-false child 0 (not-true _ (middle (isOk result) (not (eqb data′ 0)) e)) in
         let d = eqb-false data′ 0 (not-true _ (and-eq-true-iff (isOk result && not (eqb child 0)) (not (eqb data′ 0)) .0 e .1)) in
         does-given {F = child - 1 < 32} (λ s f. omega (arith, found-fine m c d s f .known .first (child - 1) (inr refl), first-most (store s))) λ low.
-        does-map (found-fine m c d) (λ _ s f. fine-less (λ q g. inl g) f) (λ s f. fine-less (λ q g. inl g) f) (scans (child - 1) (Also H (child - 1)) (inr refl) low))
+        does-map (found-fine m c d) (λ _ s f. fine-less (λ q g. inl g) f) (λ s f. fine-less (λ q g. inl g) f)
+        (scans (child - 1) (Also H (child - 1)) (inr refl) low))
         (λ _ s f. f .is-fine))
 
-    pub scan-does : (above hub : ℕ) (H : ℕ → Type 0) → H hub → hub < 32 → Does {h₀ = h₀} (Fine H) (hubCheckForChange (attachBelow free) above hub) (λ _. Fine H) (Fine H)
+    pub scan-does : (above hub : ℕ) (H : ℕ → Type 0) → H hub → hub < 32
+        → Does {h₀ = h₀} (Fine H) (hubCheckForChange (attachBelow free) above hub) (λ _. Fine H) (Fine H)
     unfolding hubCheckForChange
     scan-does zero hub H h l = does-skip
     scan-does (suc above) hub H h l =
         does-bind (does-get hub MaxChildren) λ count.
         does-given (λ s p. subst (λ (n : ℕ). n ≤ 10) (sym (p .1)) (s .good .most hub)) λ most.
-        does-pre (λ s p. p .0) (does-each count 0 (λ port m. scan-port-does (hubCheckForChange (attachBelow free) above) (scan-does above) hub port H h l (omega arith)))
+        does-pre (λ s p. p .0) (does-each count 0 (λ port m. scan-port-does (hubCheckForChange (attachBelow free) above) (scan-does above)
+        hub port H h l (omega arith)))
 
   -- ---- root attach
 
@@ -287,7 +322,8 @@ module _ {h₀ : List Event} where
   rootless-fine s r = record { inv = r .inv; known = record { hubs = λ q h. absurd h; first = λ q h. absurd h } }
 
   root-mid : (x : ℕ) (t : State h₀) → Allocated Rootless x t → Mid (λ _. ⊥) x AfterReset Attached (x + 1) 0 0 t
-  root-mid x t a = new-mid (λ _. ⊥) (new-does (λ _. ⊥) rootless-fine a) (is-root (a .here ∙ none (decLt 0 (firstUnused (store (a .before))))))
+  root-mid x t a =
+      new-mid (λ _. ⊥) (new-does (λ _. ⊥) rootless-fine a) (is-root (a .here ∙ none (decLt 0 (firstUnused (store (a .before))))))
     where
       none : Dec (0 < firstUnused (store (a .before))) → firstUnused (store (a .before)) ≡ 0
       none (yes l) = absurd (first-before (store (a .before)) 0 l (a .pre .unused))
@@ -299,5 +335,6 @@ module _ {h₀ : List Event} where
       does-allocate rootless-fine λ x.
       does-given (λ s a. a .inside) λ inside.
       does-pre (root-mid x) (
-      does-next (keeps-mid (λ _. ⊥) x reset-stable (λ s m. mid-fine x (omega arith) refl m) (put-quiet Keys Still x Speed speed (keys-clear second) (small Speed (omega arith) (omega arith)) l)) (
+      does-next (keeps-mid (λ _. ⊥) x reset-stable (λ s m. mid-fine x (omega arith) refl m)
+      (put-quiet Keys Still x Speed speed (keys-clear second) (small Speed (omega arith) (omega arith)) l)) (
       does-next (put-status (λ _. ⊥) x inside Powered (omega arith)) (attach-below-does 32 (λ _. ⊥) x Powered inside (omega arith))))

@@ -12,11 +12,12 @@ use Rattle.usb_store.specs.Values.{Attached}
 use Rattle.usb_store.proofs.Fields.{byte-other, byte-same}
 use Rattle.usb_device.specs.Device.{newDevice, firstUnused}
 use Rattle.usb_device.proofs.Free.{first-unused, new-byte}
+use Rattle.usb_sound.specs.Sound.{IsUsed}
 use Rattle.usb_model.specs.Programs.{Ran, on, _>>=_, _>>_}
 use Rattle.usb_model.specs.World.{World, M, put}
 use Rattle.usb_model.specs.Usbd.{usbAllocateDevice}
 use Rattle.usb_model.specs.History.{Event, setsAddress, configures, count}
-use Rattle.usb_model.specs.Demand3.{Once, Device, Stands}
+use Rattle.usb_model.specs.Demand3.{Once, Stands}
 use Rattle.usb_model.proofs.Ways.{Allocates, bus-full, allocated, allocate-ends}
 use Rattle.usb_model.proofs.Stores.{Follows, new-follows, first-new, elsewhere, child-follows}
 use Rattle.usb_model.proofs.Triples.{State, store, stored, Leads, bad, Does, does-store}
@@ -37,18 +38,27 @@ module _ {h₀ : List Event} where
     pub is : store t ≡ withBytes (store before) x 0 (newDevice x)
     pub past : t .past ≡ before .past
 
-  pub does-allocate : {P N : State h₀ → Type 0} {B : Type 0} {Q : B → State h₀ → Type 0} {k : ℕ → M B} → ((s : State h₀) → P s → N s) → ((x : ℕ) → Does (Allocated P x) (k x) Q N) → Does P (usbAllocateDevice >>= k) Q N
+  pub does-allocate : {P N : State h₀ → Type 0} {B : Type 0} {Q : B → State h₀ → Type 0} {k : ℕ → M B} → ((s : State h₀) → P s → N s)
+      → ((x : ℕ) → Does (Allocated P x) (k x) Q N) → Does P (usbAllocateDevice >>= k) Q N
   unfolding _>>=_
   does-allocate {P} {N} {B} {Q} {k} f h = record { run = λ s p. go s p (allocate-ends (s .world)) }
     where
       go : (s : State h₀) → P s → {r : Ran World ℕ} → Allocates (s .world) r → Leads Q N (on r k)
       go s p bus-full = bad s (f s p)
       go s p (allocated {p = x} e inside) =
-          h x .run (stored s (withBytes (store s) x 0 (newDevice x)) (new-follows (s .good) x e inside)) (record { before = s; pre = p; here = e; inside = inside; is = refl; past = refl })
+          h x .run (stored s (withBytes (store s) x 0 (newDevice x)) (new-follows (s .good) x e inside)) (record {
+            before = s;
+            pre = p;
+            here = e;
+            inside = inside;
+            is = refl;
+            past = refl;
+          })
 
 -- ---- the bytes of a new device
 
-new-own : (x : ℕ) → (getD (newDevice x) Used 0 ≡ 1) × (getD (newDevice x) Status 0 ≡ 0) × (getD (newDevice x) Number 0 ≡ x + 1) × (getD (newDevice x) Hub 0 ≡ 0)
+new-own : (x : ℕ)
+    → (getD (newDevice x) Used 0 ≡ 1) × (getD (newDevice x) Status 0 ≡ 0) × (getD (newDevice x) Number 0 ≡ x + 1) × (getD (newDevice x) Hub 0 ≡ 0)
 unfolding newDevice
 new-own x = (refl, refl, refl, refl)
 
@@ -79,14 +89,20 @@ module _ {h₀ : List Event} (H : ℕ → Type 0) where
     used-else : (q : ℕ) → byteAt (store s) q Used ≡ 1 → q ≢ x
     used-else q u e = omega (arith, sym u ∙ ap (λ (k : ℕ). byteAt (store s) k Used) e ∙ unused)
 
-    device-new : {q : ℕ} → Device (store s) q → Device (store t) q
-    device-new {q} d = record { inside = d .inside; used = else-same q Used (used-else q (d .used)) (omega arith) ∙ d .used }
+    device-new : {q : ℕ} → IsUsed (store s) q → IsUsed (store t) q
+    device-new {q} d = (d .0, else-same q Used (used-else q (d .1)) (omega arith) ∙ d .1)
 
     stands-new : {k j q : ℕ} → Stands (store s) k j q → Stands (store t) k j q
-    stands-new {k} {j} y = record { device = device-new (y .device); low = y .low; child = else-same k (Child j) (used-else k (y .device .used)) (omega (arith, y .low)) ∙ y .child }
+    stands-new {k} {j} y = record {
+      device = device-new (y .device);
+      low = y .low;
+      child = else-same k (Child j) (used-else k (y .device .1)) (omega (arith, y .low)) ∙ y .child;
+    }
 
     others : (q : ℕ) → q ≢ x → PlaceInv (store s) (s .past) q → PlaceInv (store t) (t .past) q
-    others q n i = place-map q (λ k j. stands-new) (ap (count (setsAddress (q + 1))) (a .past)) (λ R o. subst (Once R) (sym (a .past)) o) (λ g o. else-same q g n (omega (arith, own-low o))) i
+    others q n i =
+        place-map q (λ k j. stands-new) (ap (count (setsAddress (q + 1))) (a .past)) (λ R o. subst (Once R) (sym (a .past)) o)
+        (λ g o. else-same q g n (omega (arith, own-low o))) i
 
     itself : PlaceInv (store s) (s .past) x → PlaceInv (store t) (t .past) x
     itself i =
@@ -94,7 +110,9 @@ module _ {h₀ : List Event} (H : ℕ → Type 0) where
         record {
           fresh = λ e. absurd (omega (arith, e, new-is Used (omega arith), b .0));
           plain = λ d. absurd (d (new-is Hub (omega arith) ∙ b .3));
-          once = ap (count (setsAddress (x + 1))) (a .past) ∙ i .once ∙ ap expected (i .fresh unused ∙ sym (new-is Status (omega arith) ∙ b .1));
+          once =
+              ap (count (setsAddress (x + 1))) (a .past) ∙ i .once
+              ∙ ap expected (i .fresh unused ∙ sym (new-is Status (omega arith) ∙ b .1));
           numbered = λ d. absurd (d (new-is Hub (omega arith) ∙ b .3));
           story = λ e. absurd (omega (arith, e, new-is Status (omega arith), b .1));
         }
@@ -103,8 +121,14 @@ module _ {h₀ : List Event} (H : ℕ → Type 0) where
     inv-new i = record {
       place = λ q l _. at-place q l (ℕ-discrete q x);
       belongs = λ n d l.
-          let y = i .belongs n (λ q e z. z) (subst (λ (h : List Event). 0 < count (configures n) h) (a .past) l) in
-          (y .0, y .1, record { device = device-new (y .2 .device); status = else-same (y .0) Status (used-else (y .0) (y .2 .device .used)) (omega arith) ∙ y .2 .status });
+          let y = i .belongs n (λ q e z. z) (subst (λ (h : List Event). 0 < count (configures n) h) (a .past) l) in (
+            y .0,
+            y .1,
+            record {
+              device = device-new (y .2 .device);
+              status = else-same (y .0) Status (used-else (y .0) (y .2 .device .1)) (omega arith) ∙ y .2 .status;
+            },
+          );
     }
       where
         at-place : (q : ℕ) → q < 32 → Dec (q ≡ x) → PlaceInv (store t) (t .past) q
@@ -133,7 +157,8 @@ module _ {h₀ : List Event} (H : ℕ → Type 0) where
         known-else f q h e = omega (arith, e, a .here, f .known .first q h)
 
 -- a new device is in the middle of its attach
-pub new-mid : {h₀ : List Event} (H : ℕ → Type 0) {x : ℕ} {t : State h₀} → New H x t → Origin (store t) x AfterReset (t .past) → Mid H x AfterReset Attached (x + 1) 0 0 t
+pub new-mid : {h₀ : List Event} (H : ℕ → Type 0) {x : ℕ} {t : State h₀} → New H x t → Origin (store t) x AfterReset (t .past)
+    → Mid H x AfterReset Attached (x + 1) 0 0 t
 new-mid H {x} {t} n origin =
     let f = n .is-fine in
     let i = f .inv .place x (n .inside) (λ z. z) in
@@ -187,8 +212,8 @@ module _ {h₀ : List Event} (H : ℕ → Type 0) (k j : ℕ) (known : H k) (bel
     follows : Follows (store s) with-child
     follows = child-follows (s .good) k j (x + 1) below low (omega (arith, c .above)) (c .new .first)
 
-    device-rest : {q : ℕ} → Device (store s) q → Device with-child q
-    device-rest {q} d = record { inside = d .inside; used = own-rest q Used (omega arith) ∙ d .used }
+    device-rest : {q : ℕ} → IsUsed (store s) q → IsUsed with-child q
+    device-rest {q} d = (d .0, own-rest q Used (omega arith) ∙ d .1)
 
     -- a child stands at another port
     stands-rest : {h i q : ℕ} → Stands (store s) h i q → Stands with-child h i q
@@ -205,7 +230,14 @@ module _ {h₀ : List Event} (H : ℕ → Type 0) (k j : ℕ) (known : H k) (bel
     inv-rest : Inv s → Inv (stored s with-child follows)
     inv-rest i = record {
       place = λ q l _. place-map q (λ h m. stands-rest) refl (λ R o. o) (λ g o. own-rest q g (own-low o)) (i .place q l (λ z. z));
-      belongs = λ n d l. let y = i .belongs n d l in (y .0, y .1, record { device = device-rest (y .2 .device); status = own-rest (y .0) Status (omega arith) ∙ y .2 .status });
+      belongs = λ n d l. let y = i .belongs n d l in (
+        y .0,
+        y .1,
+        record {
+          device = device-rest (y .2 .device);
+          status = own-rest (y .0) Status (omega arith) ∙ y .2 .status;
+        },
+      );
     }
 
     born : Born x (stored s with-child follows)
@@ -223,7 +255,7 @@ module _ {h₀ : List Event} (H : ℕ → Type 0) (k j : ℕ) (known : H k) (bel
             first = omega (arith, follows .first, n .first);
           };
           stands = record {
-            device = record { inside = below; used = own-rest k Used (omega arith) ∙ hub-used };
+            device = (below, own-rest k Used (omega arith) ∙ hub-used);
             low = low;
             child = byte-same (store s) k (Child j) (x + 1) (record { whole = s .good .whole; inside = below; room = omega arith });
           };

@@ -31,11 +31,13 @@ use Rattle.usb_model.proofs.Asks.{small, gets, puts, puts-most, puts-ch
 -- ---- what adds to the budget
 
 -- an allocation pays for 8 requests
-allocates : {k : Known} {B : Type 0} {f : ℕ → M B} (n : ℕ) → ((p : ℕ) → p < 32 → Sends (place p true) (8 + n) (f p)) → Sends k n (usbAllocateDevice >>= f)
+allocates : {k : Known} {B : Type 0} {f : ℕ → M B} (n : ℕ) → ((p : ℕ) → p < 32 → Sends (place p true) (8 + n) (f p))
+    → Sends k n (usbAllocateDevice >>= f)
 unfolding _>>=_
 allocates {k} {B} {f} n h = record { run = λ w x. go w x (allocate-ends w) }
   where
-    go : (w : World) → Knows k (w .store) → {r : Ran World ℕ} → Allocates w r → Ended (after (frame k nothing (λ s x. forget x))) n w (endOf (on r f))
+    go : (w : World) → Knows k (w .store) → {r : Ran World ℕ} → Allocates w r
+        → Ended (after (frame k nothing (λ s x. forget x))) n w (endOf (on r f))
     go w x bus-full = record { holds = forget x; paid = omega arith }
     go w x (allocated {p} e inside) =
         let r = new-writes x p inside (ap (λ (q : ℕ). byteAt (w .store) q Used) e ∙ first-unused (w .store) (omega arith)) in
@@ -43,7 +45,8 @@ allocates {k} {B} {f} n h = record { run = λ w x. go w x (allocate-ends w) }
         record { holds = d .holds; paid = omega (arith, d .paid, r .gain) }
 
 -- a new hub for 444
-becomes-hub : {B : Type 0} {f : M B} (n p v : ℕ) → p < 32 → v ≢ 0 → Sends (place p false) (444 + n) f → Sends (place p true) n (put p Hub v >> f)
+becomes-hub : {B : Type 0} {f : M B} (n p v : ℕ) → p < 32 → v ≢ 0 → Sends (place p false) (444 + n) f
+    → Sends (place p true) n (put p Hub v >> f)
 unfolding put change _>>_
 becomes-hub n p v inside d h = record {
   run = λ w x.
@@ -60,7 +63,8 @@ vacant true b e = absurd (false≢true (sym e))
 vacant false b e = not-false b e
 
 -- more asked for after, where it follows from nothing
-anyhow : {k l : Known} {n : ℕ} {A : Type 0} {m : M A} (keep : (s : List ℕ) → Knows k s → Knows l s) → ((s : List ℕ) → Knows nothing s → Knows l s) → Sends k n m → Costs (frame k l keep) n m
+anyhow : {k l : Known} {n : ℕ} {A : Type 0} {m : M A} (keep : (s : List ℕ) → Knows k s → Knows l s)
+    → ((s : List ℕ) → Knows nothing s → Knows l s) → Sends k n m → Costs (frame k l keep) n m
 anyhow keep f h = record { run = λ w x. let e = h .run w x in record { holds = f _ (e .holds); paid = e .paid } }
 
 -- more known before than is needed
@@ -69,7 +73,8 @@ from-nothing h = record { run = λ w x. h .run w (forget x) }
 
 module _ (attach : ℕ → M (Unit {0})) (attaches : (p : ℕ) → p < 32 → Sends (place p true) 8 (attach p)) where
   -- 28 requests; 3 where the port has a child, and then what is known stays so
-  connection-changed : (hub q : ℕ) (b : Bool) {k : Known} (keep : (s : List ℕ) → Knows (port hub q b) s → Knows k s) → (b ≡ true → (s : List ℕ) → Knows nothing s → Knows k s) → q < 10
+  connection-changed : (hub q : ℕ) (b : Bool) {k : Known} (keep : (s : List ℕ) → Knows (port hub q b) s → Knows k s)
+      → (b ≡ true → (s : List ℕ) → Knows nothing s → Knows k s) → q < 10
       → Costs (frame (port hub q b) k keep) (3 + cond b 25 0) (hubPortConnectionChanged attach hub q)
   unfolding hubPortConnectionChanged get
   connection-changed hub q b keep lose l = more _ (
@@ -96,7 +101,8 @@ module _ (attach : ℕ → M (Unit {0})) (attaches : (p : ℕ) → p < 32 → Se
       next (whens _ (next (ignores (change-feature hub _ q _)) (ignores (power-on hub)))) (
       next (whens _ (next (ignores (change-feature hub _ q _)) (looks _ _ λ w x. whens-true _ λ e.
       let some : b ≡ false = sym (x .facts .1) ∙ not-true _ (and-eq-true-iff (not (bit PORT-ENABLE status) && bit PORT-CONNECTION status) _ .0 e .1) in
-      more (cond b 0 3) (ignores (connection-changed hub q b (λ s y. y) (λ z. absurd (false≢true (sym some ∙ z))) l)) (omega (arith, ap (λ c. cond {A = ℕ} c 25 0) some, ap (λ c. cond {A = ℕ} c 0 3) some))))) (
+      more (cond b 0 3) (ignores (connection-changed hub q b (λ s y. y) (λ z. absurd (false≢true (sym some ∙ z))) l))
+      (omega (arith, ap (λ c. cond {A = ℕ} c 25 0) some, ap (λ c. cond {A = ℕ} c 0 3) some))))) (
       next′ (whens _ (ignores (connection-changed hub q b (λ s y. forget y) (λ z s y. y) l))) (
       next (whens _ (change-feature hub _ q _)) (whens _ (change-feature hub _ q _))))))) (omega (arith, either-way b))
 
@@ -145,7 +151,8 @@ within (fail e w) h = h
 within (halt x w) h = h
 
 module _ (lent : Lent) (bytes : LentBytes lent) (speed : ℕ) where
-  sent : (v : Verdict) (s : List ℕ) → (v ≡ accepted → Sound (lent .old) × (s ≡ call lent v (usbAttachRootHub speed) .new)) → call lent v (usbAttachRootHub speed) .requests ≤ mostRequests s
+  sent : (v : Verdict) (s : List ℕ) → (v ≡ accepted → Sound (lent .old) × (s ≡ call lent v (usbAttachRootHub speed) .new))
+      → call lent v (usbAttachRootHub speed) .requests ≤ mostRequests s
   unfolding call budget
   sent accepted s h =
       let g = start-good lent bytes (h refl .0) in
@@ -156,4 +163,5 @@ module _ (lent : Lent) (bytes : LentBytes lent) (speed : ℕ) where
   -- refused or not, by the store that the call leaves
   pub root-attach-requests : rootAttach speed lent .requests ≤ mostRequests (storeLeft (rootVerdict lent speed) lent (rootAttach speed lent))
   unfolding rootAttach
-  root-attach-requests = sent (rootVerdict lent speed) _ (λ e. (root-accepted lent speed e .is-sound, ap (λ v. storeLeft v lent (rootAttach speed lent)) e))
+  root-attach-requests =
+      sent (rootVerdict lent speed) _ (λ e. (root-accepted lent speed e .is-sound, ap (λ v. storeLeft v lent (rootAttach speed lent)) e))

@@ -68,7 +68,8 @@ abbrev pub Beside : ℕ → ℕ → ℕ → Type 0
 Beside f n g = (f + n ≤ g) ⊎ (g + 1 ≤ f)
 
 -- a byte of another place, or beside what is written
-other : (s : List ℕ) (p f : ℕ) (vs : List ℕ) (q g : ℕ) → f + length vs ≤ 1152 → g < 1152 → (q ≡ p → Beside f (length vs) g) → byteAt (withBytes s p f vs) q g ≡ byteAt s q g
+other : (s : List ℕ) (p f : ℕ) (vs : List ℕ) (q g : ℕ) → f + length vs ≤ 1152 → g < 1152 → (q ≡ p → Beside f (length vs) g)
+    → byteAt (withBytes s p f vs) q g ≡ byteAt s q g
 other s p f vs q g room low b = byte-other s p f vs q g (go (decLt p q) (decLt q p))
   where
     go : Dec (p < q) → Dec (q < p) → Apart p f (length vs) q g 1
@@ -84,7 +85,8 @@ hubs-agree s t zero h = refl
 hubs-agree s t (suc n) h = rw (h n (omega arith), hubs-agree s t n (λ q l. h q (omega arith)))
 
 -- where one place becomes a hub, there is one more, unless it was one
-hubs-more : (s t : List ℕ) (b : Bool) (p n : ℕ) → p < n → isHub s p ≡ not b → isHub t p ≡ true → ((q : ℕ) → q ≢ p → isHub t q ≡ isHub s q) → hubsBelow t n ≡ hubsBelow s n + cond b 1 0
+hubs-more : (s t : List ℕ) (b : Bool) (p n : ℕ) → p < n → isHub s p ≡ not b → isHub t p ≡ true → ((q : ℕ) → q ≢ p → isHub t q ≡ isHub s q)
+    → hubsBelow t n ≡ hubsBelow s n + cond b 1 0
 unfolding hubsBelow
 hubs-more s t b p zero l was is same = absurd (omega arith)
 hubs-more s t b p (suc n) l was is same = go (ℕ-discrete n p) (λ m. hubs-more s t b p n m was is same)
@@ -93,7 +95,8 @@ hubs-more s t b p (suc n) l was is same = go (ℕ-discrete n p) (λ m. hubs-more
     one true x = omega arith
     one false x = omega arith
 
-    go : Dec (n ≡ p) → (p < n → hubsBelow t n ≡ hubsBelow s n + cond b 1 0) → cond (isHub t n) 1 0 + hubsBelow t n ≡ cond (isHub s n) 1 0 + hubsBelow s n + cond b 1 0
+    go : Dec (n ≡ p) → (p < n → hubsBelow t n ≡ hubsBelow s n + cond b 1 0)
+        → cond (isHub t n) 1 0 + hubsBelow t n ≡ cond (isHub s n) 1 0 + hubsBelow s n + cond b 1 0
     go (yes e) rest = rw (e, is, was, hubs-agree s t p (λ q m. same q (omega arith))) (one b (hubsBelow s p))
     go (no d) rest = rw (same n d) (omega (arith, rest (omega arith)))
 
@@ -121,11 +124,13 @@ module _ {k : Known} {s : List ℕ} (knows : Knows k s) (p f : ℕ) (vs : List �
   hub-kept : (q : ℕ) → byteAt (withBytes s p f vs) q Hub ≡ byteAt s q Hub
   hub-kept q = other s p f vs q Hub (c .room) (omega arith) (λ e. c .hub)
 
-  clear-writes : Facts k (withBytes s p f vs) → ((h : ℕ) → byteAt (withBytes s p f vs) h MaxChildren ≤ 10) → Wrote k 0 s (withBytes s p f vs)
+  clear-writes : Facts k (withBytes s p f vs) → ((h : ℕ) → byteAt (withBytes s p f vs) h MaxChildren ≤ 10)
+      → Wrote k 0 s (withBytes s p f vs)
   unfolding budget
   clear-writes facts most = record {
     knows = record { whole = with-length s p f vs ∙ knows .whole; most = most; facts = facts };
-    gain = omega (arith, free-field s p f vs (c .past) (c .room), hubs-agree s (withBytes s p f vs) 32 (λ q l. rw (used-kept q, hub-kept q)));
+    gain =
+        omega (arith, free-field s p f vs (c .past) (c .room), hubs-agree s (withBytes s p f vs) 32 (λ q l. rw (used-kept q, hub-kept q)));
   }
 
   -- where no child is written the facts are as they were
@@ -142,7 +147,9 @@ module _ {k : Known} {s : List ℕ} (knows : Knows k s) (p f : ℕ) (vs : List �
   most-kept h b = omega (arith, other s p f vs h MaxChildren (c .room) (omega arith) b, knows .most h)
 
 pub plain-writes : {k : Known} {s : List ℕ} → Knows k s → (p f : ℕ) (vs : List ℕ) → Plain f (length vs) → Wrote k 0 s (withBytes s p f vs)
-plain-writes n p f vs r = clear-writes n p f vs (r .clear) (facts-kept n p f vs (r .clear) (λ j l. beside (Child j) (omega arith) (omega arith))) (λ h. most-kept n p f vs (r .clear) h (λ e. beside MaxChildren (omega arith) (omega arith)))
+plain-writes n p f vs r =
+    clear-writes n p f vs (r .clear) (facts-kept n p f vs (r .clear) (λ j l. beside (Child j) (omega arith) (omega arith)))
+    (λ h. most-kept n p f vs (r .clear) h (λ e. beside MaxChildren (omega arith) (omega arith)))
   where
     beside : (g : ℕ) → 96 ≤ g → g < 107 → Beside f (length vs) g
     beside g l m = ⊎-elim (λ x. inl (omega arith)) (λ x. inr (omega arith)) (r .ports)
@@ -161,13 +168,18 @@ most-writes {s} n p v inside l =
     go c h (no d) = most-kept n p MaxChildren (v ∷ []) c h (λ e. absurd (d e))
 
 -- the child byte, where no port is known
-pub child-writes : {s : List ℕ} {q : ℕ} {b : Bool} → Knows (place q b) s → (p j v : ℕ) → j < 10 → Wrote (place q b) 0 s (withByte s p (Child j) v)
+pub child-writes : {s : List ℕ} {q : ℕ} {b : Bool} → Knows (place q b) s → (p j v : ℕ) → j < 10
+    → Wrote (place q b) 0 s (withByte s p (Child j) v)
 child-writes {q} n p j v l =
     let c : Clear (Child j) 1 = byte-clear (Child j) (omega arith) in
-    clear-writes n p (Child j) (v ∷ []) c (rw (used-kept n p (Child j) (v ∷ []) c q) (n .facts .0), rw (hub-kept n p (Child j) (v ∷ []) c q) (n .facts .1)) (λ h. most-kept n p (Child j) (v ∷ []) c h (λ e. inl (omega arith)))
+    clear-writes n p (Child j) (v ∷ []) c (
+      rw (used-kept n p (Child j) (v ∷ []) c q) (n .facts .0),
+      rw (hub-kept n p (Child j) (v ∷ []) c q) (n .facts .1),
+    ) (λ h. most-kept n p (Child j) (v ∷ []) c h (λ e. inl (omega arith)))
 
 -- the hub byte of a used place: 444 more, unless it was a hub
-pub hub-writes : {s : List ℕ} {p : ℕ} {b : Bool} → Knows (place p b) s → (v : ℕ) → p < 32 → v ≢ 0 → Wrote (place p false) (444 * cond b 1 0) s (withByte s p Hub v)
+pub hub-writes : {s : List ℕ} {p : ℕ} {b : Bool} → Knows (place p b) s → (v : ℕ) → p < 32 → v ≢ 0
+    → Wrote (place p false) (444 * cond b 1 0) s (withByte s p Hub v)
 unfolding budget
 hub-writes {s} {p} {b} n v inside d = record {
   knows = record {
@@ -175,7 +187,13 @@ hub-writes {s} {p} {b} n v inside d = record {
     most = λ h. omega (arith, kept h MaxChildren (omega arith) (λ e. inl (omega arith)), n .most h);
     facts = (is-used, is-hub);
   };
-  gain = omega (arith, free-field s p Hub (v ∷ []) (omega arith) (omega arith), hubs-more s t b p 32 inside (rw (n .facts .0, n .facts .1)) (rw (is-used, is-hub)) (λ q e. rw (kept q Used (omega arith) (λ x. absurd (e x)), kept q Hub (omega arith) (λ x. absurd (e x)))));
+  gain =
+      omega (
+        arith,
+        free-field s p Hub (v ∷ []) (omega arith) (omega arith),
+        hubs-more s t b p 32 inside (rw (n .facts .0, n .facts .1)) (rw (is-used, is-hub))
+            (λ q e. rw (kept q Used (omega arith) (λ x. absurd (e x)), kept q Hub (omega arith) (λ x. absurd (e x)))),
+      );
 }
   where
     t : List ℕ
@@ -191,7 +209,8 @@ hub-writes {s} {p} {b} n v inside d = record {
     is-hub = rw (byte-same s p Hub v (record { whole = n .whole; inside = inside; room = omega arith })) (ne-eqb v 0 d)
 
 -- a new device at a place that is not used: 8 more
-pub new-writes : {k : Known} {s : List ℕ} → Knows k s → (p : ℕ) → p < 32 → byteAt s p Used ≡ 0 → Wrote (place p true) 8 s (withBytes s p 0 (newDevice p))
+pub new-writes : {k : Known} {s : List ℕ} → Knows k s → (p : ℕ) → p < 32 → byteAt s p Used ≡ 0
+    → Wrote (place p true) 8 s (withBytes s p 0 (newDevice p))
 unfolding budget newDevice
 new-writes {s} n p inside was = record {
   knows = record {

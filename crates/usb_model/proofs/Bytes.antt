@@ -80,6 +80,11 @@ bytes-blank n = bytes-cons (omega arith) (bytes-cons (omega arith) (zeros (n - 2
 pub bytes-new : (place : ℕ) → place < 32 → Bytes (newDevice place)
 unfolding newDevice
 bytes-new place h =
-    bytes-append (bytes-cons (omega arith) (bytes-cons (omega arith) (bytes-cons (omega arith) (bytes-cons (omega arith) (bytes-cons (omega arith) (bytes-cons (omega arith) (bytes-cons (omega arith) (bytes-cons (omega arith) (zeros 8)))))))))
-    (bytes-append (bytes-cons (omega arith) (bytes-cons (omega arith) (bytes-cons (omega arith) (bytes-cons (omega arith) (bytes-cons (omega arith) (bytes-cons (omega arith) (bytes-cons (omega arith) (bytes-cons (omega arith) (zeros 10)))))))))
-    (bytes-append (bytes-blank 9) (bytes-append (zeros 85) (bytes-append (bytes-repeat 8 (bytes-blank 9)) (bytes-append (bytes-repeat 128 (bytes-blank 7)) (zeros 56))))))
+    bytes-append (bytes-cons (omega arith) (bytes-cons (omega arith)
+    (bytes-cons (omega arith) (bytes-cons (omega arith)
+    (bytes-cons (omega arith) (bytes-cons (omega arith) (bytes-cons (omega arith) (bytes-cons (omega arith) (zeros 8)))))))))
+    (bytes-append (bytes-cons (omega arith) (bytes-cons (omega arith)
+    (bytes-cons (omega arith) (bytes-cons (omega arith)
+    (bytes-cons (omega arith) (bytes-cons (omega arith) (bytes-cons (omega arith) (bytes-cons (omega arith) (zeros 10)))))))))
+    (bytes-append (bytes-blank 9) (bytes-append (zeros 85)
+    (bytes-append (bytes-repeat 8 (bytes-blank 9)) (bytes-append (bytes-repeat 128 (bytes-blank 7)) (zeros 56))))))

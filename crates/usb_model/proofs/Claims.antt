@@ -28,7 +28,8 @@ use Rattle.usb_model.proofs.Births.{Allocated, does-allocate, new-does,
 
 -- what an attach of a new device is to do
 abbrev pub Enters : List Event → (ℕ → M (Unit {0})) → Type 1
-Enters h₀ attach = (H : ℕ → Type 0) (x st : ℕ) → x < 32 → st < 3 → Does {h₀ = h₀} (Mid H x AfterReset st (x + 1) 0 0) (attach x) (λ _. Fine H) (Fine H)
+Enters h₀ attach =
+    (H : ℕ → Type 0) (x st : ℕ) → x < 32 → st < 3 → Does {h₀ = h₀} (Mid H x AfterReset st (x + 1) 0 0) (attach x) (λ _. Fine H) (Fine H)
 
 module _ {h₀ : List Event} (H : ℕ → Type 0) where
   -- a part that adds still events and keeps the keys
@@ -72,7 +73,11 @@ module _ {h₀ : List Event} (H : ℕ → Type 0) where
       run = λ s v.
           let own : byteAt (store s) k Number ≡ k + 1 = v .is-fine .inv .place k below (λ z. z) .numbered (v .is-fine .known .hubs k known) in
           leads-map (reset2-does s k j below low own .run s (quiet-order Keys Calm .same s))
-          (λ _ t r. record { is-fine = fine-calm (r .calmly) (v .is-fine); vacant = r .calmly .keep k (Child j) (Quiet.child j low) ∙ v .vacant; reset = r .reset })
+          (λ _ t r. record {
+            is-fine = fine-calm (r .calmly) (v .is-fine);
+            vacant = r .calmly .keep k (Child j) (Quiet.child j low) ∙ v .vacant;
+            reset = r .reset;
+          })
           (λ t r. fine-calm r (v .is-fine));
     }
 
@@ -89,8 +94,10 @@ module _ {h₀ : List Event} (H : ℕ → Type 0) where
     keeps-vacant : {A : Type 0} {S : A → Type 0} {m : M A} → Gives {h₀ = h₀} Stilly S m → Does Vacant m (λ _. Vacant) (Fine H)
     keeps-vacant q = does-map (λ s p. p) (λ _ s v. v .0) (λ s n. n) (does-keep Vacant q vacant-still (λ s v. v .is-fine))
 
-    keeps-born : (x : ℕ) {A : Type 0} {S : A → Type 0} {m : M A} → Gives {h₀ = h₀} Stilly S m → Does {h₀ = h₀} (Born H k j known below low x) m (λ _. Born H k j known below low x) (Fine H)
-    keeps-born x q = does-map (λ s p. p) (λ _ s v. v .0) (λ s n. n) (does-keep (Born H k j known below low x) q (born-still x) (λ s b. b .new .is-fine))
+    keeps-born : (x : ℕ) {A : Type 0} {S : A → Type 0} {m : M A} → Gives {h₀ = h₀} Stilly S m
+        → Does {h₀ = h₀} (Born H k j known below low x) m (λ _. Born H k j known below low x) (Fine H)
+    keeps-born x q =
+        does-map (λ s p. p) (λ _ s v. v .0) (λ s n. n) (does-keep (Born H k j known below low x) q (born-still x) (λ s b. b .new .is-fine))
 
     module _ (attach : ℕ → M (Unit {0})) (enters : Enters h₀ attach) where
       pub connection-does : Does {h₀ = h₀} (Fine H) (hubPortConnectionChanged attach k j) (λ _. Fine H) (Fine H)
@@ -103,7 +110,11 @@ module _ {h₀ : List Event} (H : ℕ → Type 0) where
           does-bind (keeps-fine (status-still k j)) λ status.
           does-bind (does-get k (Child j)) λ child.
           does-next (does-unless ((not (bit PORT-CONNECTION status) && not (bit PORT-ENABLE status)) || not (eqb child 0)) _ (λ s p. p .0)) (
-          does-pre (λ s p. record { is-fine = p .0 .0; vacant = sym (p .0 .1) ∙ eqb-true child 0 (not-false _ (neither (not (bit PORT-CONNECTION status) && not (bit PORT-ENABLE status)) (not (eqb child 0)) (p .1) .1)) }) (
+          does-pre (λ s p. record {
+            is-fine = p .0 .0;
+            vacant = sym (p .0 .1) ∙ eqb-true child 0 (not-false _
+                (neither (not (bit PORT-CONNECTION status) && not (bit PORT-ENABLE status)) (not (eqb child 0)) (p .1) .1));
+          }) (
           does-next (keeps-vacant (waits-still 300000 (omega arith))) (
           does-next resets-port (
           does-allocate (λ s p. p .is-fine) λ x.
@@ -113,8 +124,10 @@ module _ {h₀ : List Event} (H : ℕ → Type 0) where
           does-next (keeps-born x (port-status-still k j low)) (
           does-bind (keeps-born x (status-still k j)) λ after.
           does-next (keeps-born x (put-quiet Keys Still x Speed _ (keys-clear second) (small Speed (omega arith) (omega arith)) (speed-low after))) (
-          does-next (keeps-born x (put-quiet Keys Still x Parent _ (keys-clear (fourth (omega arith) (omega arith))) (small Parent (omega arith) (omega arith)) (omega arith))) (
-          does-next (keeps-born x (put-quiet Keys Still x PortNumber _ (keys-clear (fourth (omega arith) (omega arith))) (small PortNumber (omega arith) (omega arith)) (omega arith))) (
+          does-next (keeps-born x (put-quiet Keys Still x Parent _ (keys-clear (fourth (omega arith) (omega arith)))
+          (small Parent (omega arith) (omega arith)) (omega arith))) (
+          does-next (keeps-born x (put-quiet Keys Still x PortNumber _ (keys-clear (fourth (omega arith) (omega arith)))
+          (small PortNumber (omega arith) (omega arith)) (omega arith))) (
           does-pre (λ s b. born-mid H k j known below low b) (enters H x Attached inside (omega arith))))))))))))))))
 
       pub check-does : Does {h₀ = h₀} (Fine H) (hubCheckConnection attach k j) (λ _. Fine H) (Fine H)
@@ -124,11 +137,14 @@ module _ {h₀ : List Event} (H : ℕ → Type 0) where
           does-next (keeps-fine (port-status-still k j low)) (
           does-bind (keeps-fine (status-still k j)) λ status.
           does-bind (does-map (λ s p. p) (λ _ s p. p .0) (λ s n. n) (does-get {N = Fine H} k Number)) λ number.
-          does-next (maybe _ (does-next (does-ignore (keeps-fine (clear-still k PORT-OVER-CURRENT j (omega arith) low))) (does-ignore (keeps-fine (power-on-still k))))) (
+          does-next (maybe _ (does-next (does-ignore (keeps-fine (clear-still k PORT-OVER-CURRENT j (omega arith) low)))
+          (does-ignore (keeps-fine (power-on-still k))))) (
           does-next (maybe _ (does-next (does-ignore (keeps-fine (clear-still k C-PORT-ENABLE j (omega arith) low))) (
           does-bind (does-map (λ s p. p) (λ _ s p. p .0) (λ s n. n) (does-get {N = Fine H} k (Child j))) λ child. maybe _ (does-ignore connection-does)))) (
           does-next (maybe _ (does-ignore connection-does)) (
-          does-next (maybe _ (keeps-fine (clear-still k PORT-SUSPEND j (omega arith) low))) (maybe _ (keeps-fine (clear-still k C-PORT-RESET j (omega arith) low)))))))
+          does-next (maybe _ (keeps-fine (clear-still k PORT-SUSPEND j (omega arith) low)))
+          (maybe _ (keeps-fine (clear-still k C-PORT-RESET j (omega arith) low)))))))
         where
-          maybe : (b : Bool) {m : M (Unit {0})} → Does {h₀ = h₀} (Fine H) m (λ _. Fine H) (Fine H) → Does {h₀ = h₀} (Fine H) (when b m) (λ _. Fine H) (Fine H)
+          maybe : (b : Bool) {m : M (Unit {0})} → Does {h₀ = h₀} (Fine H) m (λ _. Fine H) (Fine H)
+              → Does {h₀ = h₀} (Fine H) (when b m) (λ _. Fine H) (Fine H)
           maybe b h = does-when b (λ _. h) (λ _ s p. p)

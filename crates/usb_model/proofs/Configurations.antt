@@ -54,7 +54,8 @@ headOf = deviceRequest ToDevice GetDescriptor (2 * 256 + 0) 0 9
 head-sendable : (x : ℕ) → Sendable (Spared x) x headOf (into ConfigurationDescriptor 9)
 head-sendable x = sends-into
     (record { apart = λ q g k. head-keys .apart q g (spared-key k) })
-    ConfigurationDescriptor 9 (record { apart = λ q g k. clear q g k }) (omega arith) (omega arith) ToDevice GetDescriptor (2 * 256 + 0) 0 9 (omega arith) (omega arith) (omega arith) (omega arith) (omega arith)
+    ConfigurationDescriptor 9 (record { apart = λ q g k. clear q g k }) (omega arith) (omega arith) ToDevice GetDescriptor (2 * 256 + 0) 0 9
+    (omega arith) (omega arith) (omega arith) (omega arith) (omega arith)
   where
     clear : (q g : ℕ) → Spared x q g → Apart x ConfigurationDescriptor 9 q g 1
     clear q g (spared k n) = spot-apart x ConfigurationDescriptor 9 q g (omega arith) (key-low k) (λ e. away k (n (sym e)))
@@ -74,7 +75,9 @@ module _ {h₀ : List Event} (H : ℕ → Type 0) (x : ℕ) (inside : x < 32) wh
   at-fine s m = mid-fine x (omega arith) refl m
 
   index-still : (v : ℕ) → v < 256 → Keeps {h₀ = h₀} Stilly (put x ConfigurationIndex v)
-  index-still v l = put-quiet Keys Still x ConfigurationIndex v (keys-clear (fourth (omega arith) (omega arith))) (small ConfigurationIndex (omega arith) (omega arith)) l
+  index-still v l =
+      put-quiet Keys Still x ConfigurationIndex v (keys-clear (fourth (omega arith) (omega arith)))
+      (small ConfigurationIndex (omega arith) (omega arith)) l
 
   module _ (v : ℕ) (small-value : v < 256) where
     record Before (s : State h₀) : Type 0 where
@@ -93,7 +96,8 @@ module _ {h₀ : List Event} (H : ℕ → Type 0) (x : ℕ) (inside : x < 32) wh
         let a = u .answered in
         at-fine t (mid-event x (asked (x + 1) (configurationOf v) o) (configuration-aside x v o) (λ q g k. a .keep q g (spared-key k)) (a .past)
         (count-miss (setsAddress (x + 1)) _ (a .before .past) (configuration-addresses (x + 1) (x + 1) v o) ∙ a .pre .middle .addressings)
-        (count-miss (configures (x + 1)) _ (a .before .past) (configuration-event (x + 1) (x + 1) v o ∙ own-address x (acknowledged o) ∙ u .failed) ∙ a .pre .middle .configurings)
+        (count-miss (configures (x + 1)) _ (a .before .past)
+        (configuration-event (x + 1) (x + 1) v o ∙ own-address x (acknowledged o) ∙ u .failed) ∙ a .pre .middle .configurings)
         (λ hub port r. ago r) (a .pre .middle))
 
     is-set : {bytes : List ℕ} (t : State h₀) → Acknowledged Keys x (configurationOf v) nowhere Before (x + 1) bytes t → Acked Addressed t
@@ -101,9 +105,11 @@ module _ {h₀ : List Event} (H : ℕ → Type 0) (x : ℕ) (inside : x < 32) wh
         let o = u .outcome in
         let a = u .answered in
         record {
-          middle = mid-event x (asked (x + 1) (configurationOf v) o) (configuration-aside x v o) (λ q g k. a .keep q g (spared-key k)) (a .past)
+          middle =
+              mid-event x (asked (x + 1) (configurationOf v) o) (configuration-aside x v o) (λ q g k. a .keep q g (spared-key k)) (a .past)
               (count-miss (setsAddress (x + 1)) _ (a .before .past) (configuration-addresses (x + 1) (x + 1) v o) ∙ a .pre .middle .addressings)
-              (count-hit (configures (x + 1)) _ (a .before .past) (configuration-event (x + 1) (x + 1) v o ∙ own-address x (acknowledged o) ∙ u .good) ∙ ap suc (a .pre .middle .configurings))
+              (count-hit (configures (x + 1)) _ (a .before .past)
+              (configuration-event (x + 1) (x + 1) v o ∙ own-address x (acknowledged o) ∙ u .good) ∙ ap suc (a .pre .middle .configurings))
               (λ hub port r. now (configured r (u .good))) (a .pre .middle);
           its-value = a .keep x ConfigurationValue value ∙ a .pre .its-value;
           told = subst (Once (ConfiguredWith x v Anything)) (sym (a .past)) (now (configured tt (u .good)));
@@ -112,7 +118,7 @@ module _ {h₀ : List Event} (H : ℕ → Type 0) (x : ℕ) (inside : x < 32) wh
     settle : (s : State h₀) → Acked Configured s → Settled s
     settle s a =
         let m = a .middle in
-        let shown : ShownConfigured (store s) x = record { device = record { inside = inside; used = m .used }; status = m .status } in
+        let shown : ShownConfigured (store s) x = record { device = (inside, m .used); status = m .status } in
         record {
           is-fine = record {
             inv = back x (m .but) (record {
@@ -131,7 +137,9 @@ module _ {h₀ : List Event} (H : ℕ → Type 0) (x : ℕ) (inside : x < 32) wh
       where
         tell : Origin (store s) x (AfterConfigured x v) (s .past) → Story (store s) x (s .past)
         tell (is-root e) = root e (subst (λ (b : ℕ). Once (ConfiguredWith x b Anything) (s .past)) (sym (a .its-value)) (a .told))
-        tell (is-child {hub} {port} t r) = child t (subst (λ (b : ℕ). Once (ConfiguredWith x b (AfterAddress x hub port)) (s .past)) (sym (a .its-value)) r) (a .middle .addressings)
+        tell (is-child {hub} {port} t r) =
+            child t (subst (λ (b : ℕ). Once (ConfiguredWith x b (AfterAddress x hub port)) (s .past)) (sym (a .its-value)) r)
+            (a .middle .addressings)
 
     acked-still : {st : ℕ} (s t : State h₀) → Acked st s → Quiet Keys Still s t → Acked st t
     acked-still s t a r = record {
@@ -152,8 +160,13 @@ module _ {h₀ : List Event} (H : ℕ → Type 0) (x : ℕ) (inside : x < 32) wh
         let w = own-follows H x inside Status Configured s (omega arith) (omega arith) (omega arith) in (
           w,
           settle _ (record {
-            middle = mid-write x Configured (x + 1) Status (Configured ∷ []) w (omega arith) (omega arith) (inl (omega arith)) (own-same H x inside Status Configured s (omega arith)) (own-other H x inside Status Configured Number s (omega arith) (omega arith) (inr (omega arith)) ∙ a .middle .number) (a .middle);
-            its-value = own-other H x inside Status Configured ConfigurationValue s (omega arith) (omega arith) (inl (omega arith)) ∙ a .its-value;
+            middle =
+                mid-write x Configured (x + 1) Status (Configured ∷ []) w (omega arith) (omega arith) (inl (omega arith))
+                (own-same H x inside Status Configured s (omega arith))
+                (own-other H x inside Status Configured Number s (omega arith) (omega arith) (inr (omega arith)) ∙ a .middle .number)
+                (a .middle);
+            its-value =
+                own-other H x inside Status Configured ConfigurationValue s (omega arith) (omega arith) (inl (omega arith)) ∙ a .its-value;
             told = a .told;
           }),
         ))
@@ -164,7 +177,10 @@ module _ {h₀ : List Event} (H : ℕ → Type 0) (x : ℕ) (inside : x < 32) wh
         does-known _ x Status Addressed (λ s m. m .middle .status) (
         does-next (does-unless (not (eqb Addressed Addressed)) _ (λ s m. at-fine s (m .middle))) (
         does-pre (λ s m. m .0) (
-        does-next (does-map (λ s p. p) (λ _ t u. is-set t u) unset (control-does Keys x (configurationOf v) nowhere (sends-none head-keys ToDevice SetConfiguration v 0 (omega arith) (omega arith) (omega arith) (omega arith) 0 (omega arith)) (x + 1) (λ s m. m .middle .number))) (
+        does-next (does-map (λ s p. p) (λ _ t u. is-set t u) unset
+        (control-does Keys x (configurationOf v) nowhere
+        (sends-none head-keys ToDevice SetConfiguration v 0 (omega arith) (omega arith) (omega arith) (omega arith) 0 (omega arith)) (x + 1)
+        (λ s m. m .middle .number))) (
         does-next index-put status-put))))
 
   head-ready : {o : Outcome} {t : State h₀} → Answered (Spared x) x headOf (into ConfigurationDescriptor 9) Ready (x + 1) o t → Ready t
@@ -178,7 +194,8 @@ module _ {h₀ : List Event} (H : ℕ → Type 0) (x : ℕ) (inside : x < 32) wh
   read-head : Does Ready (usbGetDescriptor x ToDevice 2 0 9 9 (into ConfigurationDescriptor 9)) (λ _. Ready) (Fine H)
   unfolding usbGetDescriptor read
   read-head =
-      does-bind (does-map (λ s p. p) (λ _ t u. head-ready (u .answered)) (λ t u. at-fine t (head-ready (u .answered))) (control-does (Spared x) x headOf (into ConfigurationDescriptor 9) (head-sendable x) (x + 1) (λ s m. m .number)))
+      does-bind (does-map (λ s p. p) (λ _ t u. head-ready (u .answered)) (λ t u. at-fine t (head-ready (u .answered)))
+      (control-does (Spared x) x headOf (into ConfigurationDescriptor 9) (head-sendable x) (x + 1) (λ s m. m .number)))
       λ bytes. does-next (does-unless (ltb (length bytes) 9) _ at-fine) (does-return bytes (λ s m. m .0))
 
   -- a part that keeps the place ready
@@ -189,15 +206,21 @@ module _ {h₀ : List Event} (H : ℕ → Type 0) (x : ℕ) (inside : x < 32) wh
   unfolding getNumber
   total-low = k-look (quiet-order Keys Still) _ (λ s.
       let long : length (bytesAt (store s) x TotalLength 2) ≡ 2 = bytes-length (store s) x TotalLength 2 (omega (arith, s .good .whole)) in
-      subst (λ (n : ℕ). fromLittleEndian (bytesAt (store s) x TotalLength 2) < 256 ^ n) long (from-below (bytesAt (store s) x TotalLength 2) (bytes-at (store s) x TotalLength 2 (s .good .store) .below)))
+      subst (λ (n : ℕ). fromLittleEndian (bytesAt (store s) x TotalLength 2) < 256 ^ n) long
+      (from-below (bytesAt (store s) x TotalLength 2) (bytes-at (store s) x TotalLength 2 (s .good .store) .below)))
 
   full-still : (total : ℕ) → total < 65536 → Gives {h₀ = h₀} Stilly Bytes (usbGetDescriptor x ToDevice 2 0 total total nowhere)
   unfolding usbGetDescriptor
-  full-still total low = read-quiet Keys x _ nowhere (sends-none head-keys ToDevice GetDescriptor (2 * 256 + 0) 0 (omega arith) (omega arith) (omega arith) (omega arith) total low) (still-device 2 0 total) total
+  full-still total low =
+      read-quiet Keys x _ nowhere
+      (sends-none head-keys ToDevice GetDescriptor (2 * 256 + 0) 0 (omega arith) (omega arith) (omega arith) (omega arith) total low)
+      (still-device 2 0 total) total
 
   record-still : Gives {h₀ = h₀} Stilly (λ bytes. Bytes bytes × (length bytes ≤ RecordLength)) (getBytes x Interfaces RecordLength)
   unfolding getBytes
-  record-still = k-look (quiet-order Keys Still) _ (λ s. (bytes-at (store s) x Interfaces RecordLength (s .good .store), bytes-most (store s) x Interfaces RecordLength))
+  record-still =
+      k-look (quiet-order Keys Still) _
+      (λ s. (bytes-at (store s) x Interfaces RecordLength (s .good .store), bytes-most (store s) x Interfaces RecordLength))
 
   pub configure-does : Does Ready (usbConfigure x 0) (λ _. Settled) (Fine H)
   unfolding usbConfigure
@@ -223,6 +246,9 @@ module _ {h₀ : List Event} (H : ℕ → Type 0) (x : ℕ) (inside : x < 32) wh
       does-given (λ s m. subst (λ (n : ℕ). n < 256) (sym (m .1)) (byte-at (store s) x ConfigurationValue (s .good .store))) λ l.
       does-pre (λ s m. record { middle = m .0; its-value = sym (m .1) }) (set-configure-does v l))))))))))))
     where
-      walked-still : (full kept : List ℕ) → Bytes full → Bytes kept → length kept ≤ RecordLength → Keeps {h₀ = h₀} Stilly (putBytes x Interfaces (walk full kept .kept))
+      walked-still : (full kept : List ℕ) → Bytes full → Bytes kept → length kept ≤ RecordLength
+          → Keeps {h₀ = h₀} Stilly (putBytes x Interfaces (walk full kept .kept))
       walked-still full kept b c l =
-          bytes-quiet Keys Still x Interfaces RecordLength (walk full kept .kept) (keys-clear (last (omega arith) (omega arith))) (record { past = omega arith; room = omega arith; apart = inr (omega arith) }) (omega (arith, walk-long full kept)) (walk-bytes full kept b c)
+          bytes-quiet Keys Still x Interfaces RecordLength (walk full kept .kept) (keys-clear (last (omega arith) (omega arith)))
+          (record { past = omega arith; room = omega arith; apart = inr (omega arith) }) (omega (arith, walk-long full kept))
+          (walk-bytes full kept b c)

@@ -39,8 +39,10 @@ module _ {S : Type 0} (F : Frame S) where
   stays s h = record { holds = F .keep s h; paid = omega arith }
 
   -- one program after another, with what holds between them
-  joined : {A B : Type 0} {P : S → Type 0} {k l : ℕ} {s : S} (r : Ran S A) (f : A → Program S B) → Ended (always P (F .spent) (F .owned)) k s (endOf r)
-      → ((t : S) → P t → F .post t) → ((a : A) (t : S) → P t → Ended (after F) l t (endOf (f a t))) → Ended (after F) (k + l) s (endOf (on r f))
+  joined : {A B : Type 0} {P : S → Type 0} {k l : ℕ} {s : S} (r : Ran S A) (f : A → Program S B)
+      → Ended (always P (F .spent) (F .owned)) k s (endOf r)
+      → ((t : S) → P t → F .post t) → ((a : A) (t : S) → P t → Ended (after F) l t (endOf (f a t)))
+      → Ended (after F) (k + l) s (endOf (on r f))
   joined (done a t) f e keep g = let d = g a t (e .holds) in record { holds = d .holds; paid = omega (arith, e .paid, d .paid) }
   joined (fail x t) f e keep g = record { holds = keep t (e .holds); paid = omega (arith, e .paid) }
   joined (halt x t) f e keep g = record { holds = keep t (e .holds); paid = omega (arith, e .paid) }
@@ -61,7 +63,8 @@ module _ {S : Type 0} {F : Frame S} {A B : Type 0} {k l : ℕ} {m : Program S A}
 
 module _ {S : Type 0} {F : Frame S} where
   -- what is looked at is known to be of a state of which `pre` holds
-  pub looks : {A B : Type 0} {k : ℕ} (g : S → A) (f : A → Program S B) → ((s : S) → F .pre s → Costs F k (f (g s))) → Costs F k (look g >>= f)
+  pub looks : {A B : Type 0} {k : ℕ} (g : S → A) (f : A → Program S B) → ((s : S) → F .pre s → Costs F k (f (g s)))
+      → Costs F k (look g >>= f)
   unfolding look _>>=_
   looks g f h = record { run = λ s p. h s p .run s p }
 
@@ -124,7 +127,8 @@ module _ {S : Type 0} {F : Frame S} where
   whens b h = whens-true b (λ _. h)
 
   -- after a test that refuses
-  pub unless : {B : Type 0} {k : ℕ} (b : Bool) (e : ErrorCode) (f : Program S B) → (b ≡ false → Costs F k f) → Costs F k (when b (throw e) >> f)
+  pub unless : {B : Type 0} {k : ℕ} (b : Bool) (e : ErrorCode) (f : Program S B) → (b ≡ false → Costs F k f)
+      → Costs F k (when b (throw e) >> f)
   unfolding when throw skip _>>_
   unless true e f h = record { run = stays F }
   unless false e f h = h refl

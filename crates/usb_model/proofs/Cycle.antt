@@ -16,8 +16,11 @@ use Rattle.usb_model.proofs.Primitives.{gets, gets-most, puts, puts-mos
 use Rattle.usb_model.proofs.Functions.{middle, small, read-device-descriptor, set-address, configures, read-hub-descriptor, get-status, change-feature, power-on, port-get-status, port-status, reset2, port-of-child, speed-low}
 use Rattle.usb_model.proofs.Pairs.{Alike, known, one, bind₂, next₂, bind₁, next₁, attempts₂, ignores₂, whens₂, eachs₂, child₂, allocate₂}
 
-module _ {u : World} (attach attach′ : ℕ → M (Unit {0})) (attaches : (v : World) → freePlaces (v .store) < freePlaces (u .store) → (place : ℕ) → place < 32 → Alike v (place + 1) (attach place) (attach′ place)) {n : ℕ} where
-  pub connection-changed : (hub port : ℕ) → hub < n → port < 10 → Alike u n (hubPortConnectionChanged attach hub port) (hubPortConnectionChanged attach′ hub port)
+module _ {u : World} (attach attach′ : ℕ → M (Unit {0}))
+    (attaches : (v : World) → freePlaces (v .store) < freePlaces (u .store) → (place : ℕ) → place < 32
+    → Alike v (place + 1) (attach place) (attach′ place)) {n : ℕ} where
+  pub connection-changed : (hub port : ℕ) → hub < n → port < 10
+      → Alike u n (hubPortConnectionChanged attach hub port) (hubPortConnectionChanged attach′ hub port)
   unfolding hubPortConnectionChanged
   connection-changed hub port h l =
       next₁ frames (next₁ (port-get-status hub port l) (next₁ (change-feature hub _ port _) (next₁ (port-get-status hub port l) (
@@ -33,7 +36,8 @@ module _ {u : World} (attach attach′ : ℕ → M (Unit {0})) (attaches : (v : 
       next₁ (puts place PortNumber _ (small PortNumber (omega arith) (omega arith)) (omega arith)) (
       attaches v less place inside))))))))))))
 
-  pub check-connection : (hub port : ℕ) → hub < n → port < 10 → Alike u n (hubCheckConnection attach hub port) (hubCheckConnection attach′ hub port)
+  pub check-connection : (hub port : ℕ) → hub < n → port < 10
+      → Alike u n (hubCheckConnection attach hub port) (hubCheckConnection attach′ hub port)
   unfolding hubCheckConnection
   check-connection hub port h l =
       bind₁ (port-status hub port) λ before _.
@@ -41,11 +45,13 @@ module _ {u : World} (attach attach′ : ℕ → M (Unit {0})) (attaches : (v : 
       bind₁ (port-status hub port) λ status _.
       bind₁ (gets hub Number) λ number _.
       next₁ (whens _ (next (ignores (change-feature hub _ port _)) (ignores (power-on hub)))) (
-      next₂ (whens₂ _ λ _. next₁ (ignores (change-feature hub _ port _)) (bind₁ (gets hub (Child port)) λ child _. whens₂ _ λ _. ignores₂ (connection-changed hub port h l))) (
+      next₂ (whens₂ _ λ _. next₁ (ignores (change-feature hub _ port _))
+      (bind₁ (gets hub (Child port)) λ child _. whens₂ _ λ _. ignores₂ (connection-changed hub port h l))) (
       next₂ (whens₂ _ λ _. ignores₂ (connection-changed hub port h l)) (
       next₁ (whens _ (change-feature hub _ port _)) (one (whens _ (change-feature hub _ port _)))))))
 
-  pub check-device : (hub child : ℕ) → hub < n → Alike u n (hubCheckConnectionDevice attach hub child) (hubCheckConnectionDevice attach′ hub child)
+  pub check-device : (hub child : ℕ) → hub < n
+      → Alike u n (hubCheckConnectionDevice attach hub child) (hubCheckConnectionDevice attach′ hub child)
   unfolding hubCheckConnectionDevice
   check-device hub child h =
       bind₁ (port-of-child hub child) λ port l.
@@ -85,7 +91,8 @@ attach-walks zero u place h = one skips
 attach-walks (suc free) u place h = attach-device (attachBelow free) (attachBelow free) (λ v _. attach-walks free v) place (omega arith)
 
 -- fuel of the attach: with fewer than k free places, any two numbers from k on give the same run
-pub attach-fuel : (k a b : ℕ) (u : World) → freePlaces (u .store) < k → (place : ℕ) → k ≤ a → k ≤ b → place < 32 → Alike u (place + 1) (attachBelow a place) (attachBelow b place)
+pub attach-fuel : (k a b : ℕ) (u : World) → freePlaces (u .store) < k → (place : ℕ) → k ≤ a → k ≤ b → place < 32
+    → Alike u (place + 1) (attachBelow a place) (attachBelow b place)
 unfolding attachBelow
 attach-fuel zero a b u f place x y h = absurd (omega arith)
 attach-fuel (suc k) zero b u f place x y h = absurd (omega arith)
@@ -94,7 +101,8 @@ attach-fuel (suc k) (suc a) (suc b) u f place x y h =
     attach-device (attachBelow a) (attachBelow b) (λ v less p l. attach-fuel k a b v (omega arith) p (omega arith) (omega arith) l) place (omega arith)
 
 -- so the number of the entry points is enough: no larger one gives another run
-pub attach-enough : (b : ℕ) → Places ≤ b → (u : World) → freePlaces (u .store) < Places → (place : ℕ) → place < Places → Alike u (place + 1) (attachNew place) (attachBelow b place)
+pub attach-enough : (b : ℕ) → Places ≤ b → (u : World) → freePlaces (u .store) < Places → (place : ℕ) → place < Places
+    → Alike u (place + 1) (attachNew place) (attachBelow b place)
 attach-enough b l u f place h = attach-fuel Places _ b u f place (omega arith) l h
 
 pub root-hub : (u : World) (speed : ℕ) → speed < 256 → Alike u 0 (usbAttachRootHub speed) (usbAttachRootHub speed)
@@ -106,7 +114,8 @@ root-hub u speed h = allocate₂ λ v place less l inside.
 -- ---- scan
 
 module _ (free : ℕ) where
-  scan-port : {u : World} {below below′ : ℕ → M (Unit {0})} {n : ℕ} (hub port : ℕ) → hub < n → port < 10 → ((v : World) (place : ℕ) → hub < place → Alike v (place + 1) (below place) (below′ place))
+  scan-port : {u : World} {below below′ : ℕ → M (Unit {0})} {n : ℕ} (hub port : ℕ) → hub < n → port < 10
+      → ((v : World) (place : ℕ) → hub < place → Alike v (place + 1) (below place) (below′ place))
       → Alike u n (scanPort (attachBelow free) below hub port) (scanPort (attachBelow free) below′ hub port)
   unfolding scanPort
   scan-port hub port h l scans =
@@ -117,7 +126,8 @@ module _ (free : ℕ) where
       let there = stands (not-true _ (middle (isOk result) (not (eqb data′ 0)) e)) in
       known (omega (arith, there .1)) (λ v. scans v (child - 1) (omega (arith, there .0)))
 
-  pub check-for-change : (u : World) (above hub : ℕ) → Alike u (hub + 1) (hubCheckForChange (attachBelow free) above hub) (hubCheckForChange (attachBelow free) above hub)
+  pub check-for-change : (u : World) (above hub : ℕ)
+      → Alike u (hub + 1) (hubCheckForChange (attachBelow free) above hub) (hubCheckForChange (attachBelow free) above hub)
   unfolding hubCheckForChange
   check-for-change u zero hub = one skips
   check-for-change u (suc above) hub =
@@ -125,7 +135,8 @@ module _ (free : ℕ) where
       eachs₂ count 0 (λ port l. scan-port hub port (omega arith) (omega (arith, most)) (λ v place _. check-for-change v above place))
 
   -- fuel of a scan: any two numbers that bound the places above the hub give the same run
-  pub scan-fuel : (u : World) (a b hub : ℕ) → 32 ≤ hub + a → 32 ≤ hub + b → Alike u (hub + 1) (hubCheckForChange (attachBelow free) a hub) (hubCheckForChange (attachBelow free) b hub)
+  pub scan-fuel : (u : World) (a b hub : ℕ) → 32 ≤ hub + a → 32 ≤ hub + b
+      → Alike u (hub + 1) (hubCheckForChange (attachBelow free) a hub) (hubCheckForChange (attachBelow free) b hub)
   unfolding hubCheckForChange
   scan-fuel u zero b hub x y = record { run = λ w r. absurd (omega (arith, r .used, first-most (w .store))) }
   scan-fuel u (suc a) zero hub x y = record { run = λ w r. absurd (omega (arith, r .used, first-most (w .store))) }
@@ -134,5 +145,6 @@ module _ (free : ℕ) where
       eachs₂ count 0 (λ port l. scan-port hub port (omega arith) (omega (arith, most)) (λ v place m. scan-fuel v a b place (omega arith) (omega arith)))
 
 -- so the number of a scan is enough
-pub scan-enough : (u : World) (b hub : ℕ) → Places ≤ hub + b → Alike u (hub + 1) (hubCheckForChange attachNew Places hub) (hubCheckForChange attachNew b hub)
+pub scan-enough : (u : World) (b hub : ℕ) → Places ≤ hub + b
+    → Alike u (hub + 1) (hubCheckForChange attachNew Places hub) (hubCheckForChange attachNew b hub)
 scan-enough u b hub l = scan-fuel Places u Places b hub (omega arith) l

@@ -75,7 +75,8 @@ record EndState (h : List Event) (H : ℕ → Type 0) (w : World) : Type 0 where
   is : state .world ≡ w
   is-fine : Fine H state
 
-leads-ended : {h : List Event} {H : ℕ → Type 0} {r : Ran World (Unit {0})} {w : World} → Leads {h₀ = h} (λ _. Fine H) (Fine H) r → Ended r w → EndState h H w
+leads-ended : {h : List Event} {H : ℕ → Type 0} {r : Ran World (Unit {0})} {w : World} → Leads {h₀ = h} (λ _. Fine H) (Fine H) r → Ended r w
+    → EndState h H w
 leads-ended (fine s f) finished = record { state = s; is = refl; is-fine = f }
 leads-ended (bad s f) failed = record { state = s; is = refl; is-fine = f }
 
@@ -84,7 +85,8 @@ left-ended finished = refl
 left-ended failed = refl
 
 -- the history that a call joins is the one of the state in which it ended
-joined-is : {h : List Event} {H : ℕ → Type 0} {w : World} (outcomes : List ℕ) (e : EndState h H w) → w .outcomes ≡ outcomes → (n : ℕ) → w .at .logged ≡ 16 * n → joined n (w .log) outcomes h ≡ e .state .past
+joined-is : {h : List Event} {H : ℕ → Type 0} {w : World} (outcomes : List ℕ) (e : EndState h H w) → w .outcomes ≡ outcomes → (n : ℕ)
+    → w .at .logged ≡ 16 * n → joined n (w .log) outcomes h ≡ e .state .past
 unfolding joined
 joined-is {h} {H} {w} outcomes e o n l =
     let r = subst (λ (v : World). Reads h v (e .state .past)) (e .is) (e .state .reads) in
@@ -93,7 +95,9 @@ joined-is {h} {H} {w} outcomes e o n l =
 
 module _ (lent : Lent) (bytes : LentBytes lent) {h : List Event} (k : Kept (lent .old) h) {w : World} (c : Call) (ends : Ended (program c (start lent)) w) where
   -- a run that is claimed, walks and stays sound
-  kept-ran : {H : ℕ → Type 0} {m : ℕ} → Leads {h₀ = h} (λ _. Fine H) (Fine H) (program c (start lent)) → Left (Reach (start lent) m) Any (program c (start lent)) → Stays (program c) (start lent) → (n : ℕ) → w .at .logged ≡ 16 * n → Kept (w .store) (joined n (w .log) (lent .outcomes) h)
+  kept-ran : {H : ℕ → Type 0} {m : ℕ} → Leads {h₀ = h} (λ _. Fine H) (Fine H) (program c (start lent))
+      → Left (Reach (start lent) m) Any (program c (start lent)) → Stays (program c) (start lent) → (n : ℕ) → w .at .logged ≡ 16 * n
+      → Kept (w .store) (joined n (w .log) (lent .outcomes) h)
   kept-ran {H} {m} x y z n l =
       let e = leads-ended x ends in
       let o = subst (Reach (start lent) m) (left-ended ends) (left-holds y) .onward in
@@ -102,7 +106,8 @@ module _ (lent : Lent) (bytes : LentBytes lent) {h : List Event} (k : Kept (lent
       let same : store (e .state) ≡ w .store = ap (λ (v : World). v .store) (e .is) in
       record {
         sound = subst (λ (v : World). Sound (v .store)) (left-ended ends) (z .sound);
-        place = λ p m. subst (λ (q : List Event). PlaceInv (w .store) q p) past (subst (λ (v : List ℕ). PlaceInv v (e .state .past) p) same (i .place p m (λ b. b)));
+        place = λ p m. subst (λ (q : List Event). PlaceInv (w .store) q p) past
+            (subst (λ (v : List ℕ). PlaceInv v (e .state .past) p) same (i .place p m (λ b. b)));
         belongs = λ a m.
             let b = i .belongs a (λ q f t. t) (subst (λ (q : List Event). 0 < count (configures a) q) (sym past) m) in
             (b .0, b .1, subst (λ (v : List ℕ). ShownConfigured v (b .0)) same (b .2));
@@ -111,7 +116,8 @@ module _ (lent : Lent) (bytes : LentBytes lent) {h : List Event} (k : Kept (lent
 -- ---- a list of calls
 
 -- the hub that a call names is known
-hub-fine : (lent : Lent) (bytes : LentBytes lent) (r : Sound (lent .old)) {h : List Event} → Kept (lent .old) h → (hub : ℕ) → byteAt (lent .old) hub Hub ≢ 0 → hub + 1 ≤ firstUnused (lent .old) → Fine (λ q. q ≡ hub) (first-state lent bytes r h)
+hub-fine : (lent : Lent) (bytes : LentBytes lent) (r : Sound (lent .old)) {h : List Event} → Kept (lent .old) h → (hub : ℕ)
+    → byteAt (lent .old) hub Hub ≢ 0 → hub + 1 ≤ firstUnused (lent .old) → Fine (λ q. q ≡ hub) (first-state lent bytes r h)
 hub-fine lent bytes r k hub n l = record {
   inv = record { place = λ p m _. k .place p m; belongs = λ a _ m. k .belongs a m };
   known = record {
@@ -120,12 +126,17 @@ hub-fine lent bytes r k hub n l = record {
   };
 }
 
-kept-call : (lent : Lent) (bytes : LentBytes lent) {h : List Event} → Kept (lent .old) h → {w : World} (c : Call) → verdict c lent ≡ accepted → Ended (program c (start lent)) w → (n : ℕ) → w .at .logged ≡ 16 * n → Kept (w .store) (joined n (w .log) (lent .outcomes) h)
+kept-call : (lent : Lent) (bytes : LentBytes lent) {h : List Event} → Kept (lent .old) h → {w : World} (c : Call)
+    → verdict c lent ≡ accepted → Ended (program c (start lent)) w → (n : ℕ) → w .at .logged ≡ 16 * n
+    → Kept (w .store) (joined n (w .log) (lent .outcomes) h)
 kept-call lent bytes {h} k (attaches speed) v e n l =
     let x = root-accepted lent speed v in
     let s = first-state lent bytes (x .is-sound) h in
     kept-ran lent bytes k (attaches speed) e
-    (root-does speed (omega (arith, x .low)) .run s (record { inv = record { place = λ p m _. k .place p m; belongs = λ a _ m. k .belongs a m }; unused = x .unused }))
+    (root-does speed (omega (arith, x .low)) .run s (record {
+      inv = record { place = λ p m _. k .place p m; belongs = λ a _ m. k .belongs a m };
+      unused = x .unused;
+    }))
     (root-hub (start lent) speed (omega (arith, x .low)) .run (start lent) (reach-here (start lent) (s .good) (omega arith)) .walk)
     (root-hub-stays (start lent) (x .is-sound) (x .unused) speed (x .low)) n l
 kept-call lent bytes {h} k (scans hub) v e n l =
@@ -140,8 +151,10 @@ kept-call lent bytes {h} k (checks hub port) v e n l =
     let s = first-state lent bytes (x .is-sound) h in
     let low : port < 10 = omega (arith, ltb-false 9 port (x .good)) in
     kept-ran lent bytes k (checks hub port) e
-    (check-does (λ q. q ≡ hub) hub port refl (x .inside) low attachNew (attach-below-does 32) .run s (hub-fine lent bytes (x .is-sound) k hub (x .is-hub) (x .first)))
-    (check-connection attachNew attachNew (λ v _. attach-walks 32 v) hub port (omega arith) low .run (start lent) (reach-here (start lent) (s .good) (x .first)) .walk)
+    (check-does (λ q. q ≡ hub) hub port refl (x .inside) low attachNew (attach-below-does 32) .run s
+    (hub-fine lent bytes (x .is-sound) k hub (x .is-hub) (x .first)))
+    (check-connection attachNew attachNew (λ v _. attach-walks 32 v) hub port (omega arith) low .run (start lent)
+    (reach-here (start lent) (s .good) (x .first)) .walk)
     (check-connection-stays (start lent) (x .is-sound) (hub-place (x .is-sound) (x .inside) (x .is-hub)) 32 port low) n l
 
 kept : {s : List ℕ} {h : List Event} → Reached s h → Kept s h
@@ -152,20 +165,21 @@ kept (ran {s} {h} r c lent e b v end n l) = kept-call lent b (subst (λ (t : Lis
 -- ---- the claim
 
 -- the hub and port of a device are one, in a sound store
-single : {s : List ℕ} → Sound s → (hub port hub′ port′ place : ℕ) → Stands s hub port place → Stands s hub′ port′ place → (hub ≡ hub′) × (port ≡ port′)
+single : {s : List ℕ} → Sound s → (hub port hub′ port′ place : ℕ) → Stands s hub port place → Stands s hub′ port′ place
+    → (hub ≡ hub′) × (port ≡ port′)
 single {s} r hub port hub′ port′ place x y =
-    let u = r .children hub port place (x .device .inside) (x .low) (x .child) in
-    let n : place ≢ 0 = λ e. r .root hub port (x .device .inside) (x .low) (x .child ∙ ap (λ (k : ℕ). k + 1) e) in
+    let u = r .children hub port place (x .device .0) (x .low) (x .child) in
+    let n : place ≢ 0 = λ e. r .root hub port (x .device .0) (x .low) (x .child ∙ ap (λ (k : ℕ). k + 1) e) in
     let c = r .child place (omega (arith, n)) u in
-    let a = c .once hub port (x .device .inside) (x .low) (x .child) in
-    let b = c .once hub′ port′ (y .device .inside) (y .low) (y .child) in
+    let a = c .once hub port (x .device .0) (x .low) (x .child) in
+    let b = c .once hub′ port′ (y .device .0) (y .low) (y .child) in
     (a .0 ∙ sym (b .0), a .1 ∙ sym (b .1))
 
 pub demand3 : Demand3
 unfolding rootAttach
 demand3 s h r =
     let k = kept r in (
-      record { story = λ p c. k .place p (c .device .inside) .story (c .status); single = single (k .sound); belongs = k .belongs },
+      record { story = λ p c. k .place p (c .device .0) .story (c .status); single = single (k .sound); belongs = k .belongs },
       λ speed lent e b. root-attach-requests lent b speed,
     )
 
@@ -184,10 +198,12 @@ unfolding portCheck
 checks-is hub port lent = refl
 
 -- where a call that is accepted ends in the world w, it leaves the store and the log of w, and reports its count
-pub leaves-ended : (c : Call) (lent : Lent) {w : World} → verdict c lent ≡ accepted → Ended (program c (start lent)) w → (entry c lent .new ≡ w .store) × (entry c lent .log ≡ w .log) × (entry c lent .requests ≡ w .at .requests)
+pub leaves-ended : (c : Call) (lent : Lent) {w : World} → verdict c lent ≡ accepted → Ended (program c (start lent)) w
+    → (entry c lent .new ≡ w .store) × (entry c lent .log ≡ w .log) × (entry c lent .requests ≡ w .at .requests)
 unfolding call
 leaves-ended c lent {w} v e = rw v (go e)
   where
-    go : {r : Ran World (Unit {0})} → Ended r w → (answered r .new ≡ w .store) × (answered r .log ≡ w .log) × (answered r .requests ≡ w .at .requests)
+    go : {r : Ran World (Unit {0})} → Ended r w
+        → (answered r .new ≡ w .store) × (answered r .log ≡ w .log) × (answered r .requests ≡ w .at .requests)
     go finished = (refl, refl, refl)
     go failed = (refl, refl, refl)

@@ -106,7 +106,8 @@ refusal-listed RootSpeed = listed 12 (omega arith)
 -- ---- what is left
 
 module _ (lent : Lent) (bytes : LentBytes lent) where
-  leaves-of : {v : World} {answer : ℤ} → Listed answer → length (lent .new) ≡ length (lent .old) → Onward (start lent) v → Good v → Accounts lent (leaves answer v)
+  leaves-of : {v : World} {answer : ℤ} → Listed answer → length (lent .new) ≡ length (lent .old) → Onward (start lent) v → Good v
+      → Accounts lent (leaves answer v)
   leaves-of a e o g = record {
     answer = a;
     new-length = o .store ∙ sym e;
@@ -119,13 +120,16 @@ module _ (lent : Lent) (bytes : LentBytes lent) where
     requests = omega (arith, o .requests);
   }
 
-  answered-of : {n : ℕ} {r : Ran World (Unit {0})} → length (lent .new) ≡ length (lent .old) → Left (Reach (start lent) n) Any r → Accounts lent (answered r)
+  answered-of : {n : ℕ} {r : Ran World (Unit {0})} → length (lent .new) ≡ length (lent .old) → Left (Reach (start lent) n) Any r
+      → Accounts lent (answered r)
   answered-of e (is-done x q) = leaves-of (listed 0 (omega arith)) e (x .onward) (x .good)
   answered-of l (is-failed {e} x) = leaves-of (error-listed e) l (x .onward) (x .good)
   answered-of l (is-halted {h} x) = leaves-of (halt-listed h) l (x .onward) (x .good)
 
   -- a call that is refused, or runs
-  called : {n : ℕ} (v : Verdict) (m : M (Unit {0})) → (v ≡ accepted → (length (lent .new) ≡ length (lent .old)) × Left (Reach (start lent) n) Any (m (start lent))) → Accounts lent (call lent v m)
+  called : {n : ℕ} (v : Verdict) (m : M (Unit {0}))
+      → (v ≡ accepted → (length (lent .new) ≡ length (lent .old)) × Left (Reach (start lent) n) Any (m (start lent)))
+      → Accounts lent (call lent v m)
   unfolding call requestsIn
   called accepted m h = answered-of (h refl .0) (h refl .1)
   called (refused r) m h = record {
@@ -144,7 +148,8 @@ module _ (lent : Lent) (bytes : LentBytes lent) where
 
 module _ (lent : Lent) (bytes : LentBytes lent) where
   -- an entry that names a hub: its program walks where the hub is known, and the other arguments are good
-  of-hub : (hub : ℕ) (bad : Bool) (m : M (Unit {0})) → (bad ≡ false → Alike (start lent) (hub + 1) m m) → Accounts lent (call lent (hubVerdict lent hub bad) m)
+  of-hub : (hub : ℕ) (bad : Bool) (m : M (Unit {0})) → (bad ≡ false → Alike (start lent) (hub + 1) m m)
+      → Accounts lent (call lent (hubVerdict lent hub bad) m)
   of-hub hub bad m h = called lent bytes _ m (λ e.
       let x = hub-accepted lent hub bad e in
       (x .lengths, h (x .good) .run (start lent) (reach-here (start lent) (start-good lent bytes (x .is-sound)) (x .first)) .walk))
@@ -152,8 +157,11 @@ module _ (lent : Lent) (bytes : LentBytes lent) where
   pub root-attach-accounts : (speed : ℕ) → Accounts lent (rootAttach speed lent)
   unfolding rootAttach
   root-attach-accounts speed = called lent bytes (rootVerdict lent speed) (usbAttachRootHub speed) (λ e.
-      let x = root-accepted lent speed e in
-      (x .lengths, root-hub (start lent) speed (omega (arith, x .low)) .run (start lent) (reach-here (start lent) (start-good lent bytes (x .is-sound)) (omega arith)) .walk))
+      let x = root-accepted lent speed e in (
+        x .lengths,
+        root-hub (start lent) speed (omega (arith, x .low)) .run (start lent)
+            (reach-here (start lent) (start-good lent bytes (x .is-sound)) (omega arith)) .walk,
+      ))
 
   pub scan-accounts : (hub : ℕ) → Accounts lent (scan hub lent)
   unfolding scan
@@ -161,15 +169,20 @@ module _ (lent : Lent) (bytes : LentBytes lent) where
 
   pub port-check-accounts : (hub port : ℕ) → Accounts lent (portCheck hub port lent)
   unfolding portCheck
-  port-check-accounts hub port = of-hub hub (noPort port) _ (λ e. check-connection attachNew attachNew (λ v _. attach-walks 32 v) hub port (omega arith) (omega (arith, ltb-false 9 port e)))
+  port-check-accounts hub port =
+      of-hub hub (noPort port) _
+      (λ e. check-connection attachNew attachNew (λ v _. attach-walks 32 v) hub port (omega arith) (omega (arith, ltb-false 9 port e)))
 
   pub connection-change-accounts : (hub port : ℕ) → Accounts lent (connectionChange hub port lent)
   unfolding connectionChange
-  connection-change-accounts hub port = of-hub hub (noPort port) _ (λ e. connection-changed attachNew attachNew (λ v _. attach-walks 32 v) hub port (omega arith) (omega (arith, ltb-false 9 port e)))
+  connection-change-accounts hub port =
+      of-hub hub (noPort port) _
+      (λ e. connection-changed attachNew attachNew (λ v _. attach-walks 32 v) hub port (omega arith) (omega (arith, ltb-false 9 port e)))
 
   pub child-check-accounts : (hub child : ℕ) → Accounts lent (childCheck hub child lent)
   unfolding childCheck
-  child-check-accounts hub child = of-hub hub (isUnused lent child) _ (λ _. check-device attachNew attachNew (λ v _. attach-walks 32 v) hub child (omega arith))
+  child-check-accounts hub child =
+      of-hub hub (isUnused lent child) _ (λ _. check-device attachNew attachNew (λ v _. attach-walks 32 v) hub child (omega arith))
 
   pub child-reset-accounts : (hub child : ℕ) → Accounts lent (childReset hub child lent)
   unfolding childReset
@@ -183,6 +196,10 @@ pub walk-accounts : (descriptors kept : List ℕ) → Bytes descriptors → Byte
 unfolding configurationWalk
 walk-accounts d kept b c = go (ltb 65535 (length d) || not (eqb (length kept) RecordLength))
   where
-    go : (bad : Bool) → WalkAccounts kept (cond bad (record { answer = refusalNumber BadArgument; kept = kept }) (record { answer = answerNumber (walk d kept .answer); kept = walk d kept .kept }))
+    go : (bad : Bool)
+        → WalkAccounts kept (cond bad (record { answer = refusalNumber BadArgument; kept = kept }) (record {
+          answer = answerNumber (walk d kept .answer);
+          kept = walk d kept .kept;
+        }))
     go true = record { answer = refusal-listed BadArgument; kept-length = refl; kept-bytes = c }
     go false = record { answer = answer-listed (walk d kept .answer); kept-length = walk-long d kept; kept-bytes = walk-bytes d kept b c }

@@ -30,7 +30,8 @@ middle {b} a c e = and-eq-true-iff a b .0 (and-eq-true-iff (a && b) c .0 e .0) .
 
 direction-most : (code : ℕ) → directionOf code ≤ 1
 unfolding directionOf
-direction-most code = go (eqb code GetStatus || eqb code GetDescriptor || eqb code GetConfiguration || eqb code GetInterface || eqb code SynchFrame)
+direction-most code =
+    go (eqb code GetStatus || eqb code GetDescriptor || eqb code GetConfiguration || eqb code GetInterface || eqb code SynchFrame)
   where
     go : (b : Bool) → cond {A = ℕ} b 1 0 ≤ 1
     go true = omega arith
@@ -41,7 +42,8 @@ pub packet-small : (b : Bool) → cond {A = ℕ} b 8 64 < 256
 packet-small true = omega arith
 packet-small false = omega arith
 
-pub codes : (recipient code value index size : ℕ) → recipient < 128 → code < 256 → Byte-codes (deviceRequest recipient code value index size)
+pub codes : (recipient code value index size : ℕ) → recipient < 128 → code < 256
+    → Byte-codes (deviceRequest recipient code value index size)
 unfolding deviceRequest
 codes recipient code value index size r c = record { type = omega (arith, direction-most code); code = c }
 
@@ -57,15 +59,18 @@ pub small : (f : ℕ) → 0 < f → f < 96 → Plain f 1
 small f h l = record { past = h; room = omega arith; apart = inl (omega arith) }
 
 module _ {u : World} {n : ℕ} where
-  descriptors : (p recipient type index size minimum : ℕ) {b : Buffer} → recipient < 128 → Fits b → Walks u n (usbGetDescriptor p recipient type index size minimum b) Bytes
+  descriptors : (p recipient type index size minimum : ℕ) {b : Buffer} → recipient < 128 → Fits b
+      → Walks u n (usbGetDescriptor p recipient type index size minimum b) Bytes
   unfolding usbGetDescriptor
-  descriptors p recipient type index size minimum {b} r f = reads p _ b (codes recipient GetDescriptor (type * 256 + index) 0 size r (omega arith)) f minimum
+  descriptors p recipient type index size minimum {b} r f =
+      reads p _ b (codes recipient GetDescriptor (type * 256 + index) 0 size r (omega arith)) f minimum
 
   -- ---- usbd.rs
 
   pub device-descriptor : (p minimum : ℕ) → Goes u n (readDeviceDescriptor p minimum)
   unfolding readDeviceDescriptor
-  device-descriptor p minimum = bind (descriptors p ToDevice 1 0 18 minimum (omega arith) (low DeviceDescriptor 18 (omega arith) (omega arith))) λ bytes _. gives _ tt
+  device-descriptor p minimum =
+      bind (descriptors p ToDevice 1 0 18 minimum (omega arith) (low DeviceDescriptor 18 (omega arith) (omega arith))) λ bytes _. gives _ tt
 
   pub read-device-descriptor : (p : ℕ) → Goes u n (usbReadDeviceDescriptor p)
   unfolding usbReadDeviceDescriptor
@@ -105,7 +110,8 @@ module _ {u : World} {n : ℕ} where
       bind (descriptors p ToDevice 2 index total total (omega arith) none) λ full b.
       next (puts p ConfigurationIndex index (small ConfigurationIndex (omega arith) (omega arith)) h) (
       bind (gets-bytes p Interfaces RecordLength) λ kept c.
-      next (puts-bytes p Interfaces RecordLength _ (record { past = omega arith; room = omega arith; apart = inr (omega arith) }) (omega (arith, walk-long full kept, c .1)) (walk-bytes full kept b (c .0))) (
+      next (puts-bytes p Interfaces RecordLength _ (record { past = omega arith; room = omega arith; apart = inr (omega arith) })
+      (omega (arith, walk-long full kept, c .1)) (walk-bytes full kept b (c .0))) (
       next (succeeds _) (
       bind (gets p _) λ value v. set-configure p value v)))))
 
@@ -122,7 +128,8 @@ module _ {u : World} {n : ℕ} where
 
   pub get-status : (p : ℕ) → Goes u n (hubGetStatus p)
   unfolding hubGetStatus
-  get-status p = next (reads p _ _ (codes ToHub GetStatus 0 0 4 (omega arith) (omega arith)) (low HubStatus _ (omega arith) (omega arith)) _) skips
+  get-status p =
+      next (reads p _ _ (codes ToHub GetStatus 0 0 4 (omega arith) (omega arith)) (low HubStatus _ (omega arith) (omega arith)) _) skips
 
   pub change-feature : (p feature port : ℕ) (set : Bool) → Goes u n (hubChangePortFeature p feature port set)
   unfolding hubChangePortFeature
@@ -141,7 +148,10 @@ module _ {u : World} {n : ℕ} where
 
   pub port-get-status : (p port : ℕ) → port < 10 → Goes u n (hubPortGetStatus p port)
   unfolding hubPortGetStatus
-  port-get-status p port h = next (reads p _ _ (codes ToPort GetStatus 0 (port + 1) 4 (omega arith) (omega arith)) (low (PortStatus port) _ (omega arith) (omega arith)) _) skips
+  port-get-status p port h =
+      next
+      (reads p _ _ (codes ToPort GetStatus 0 (port + 1) 4 (omega arith) (omega arith)) (low (PortStatus port) _ (omega arith) (omega arith)) _)
+      skips
 
   pub port-status : (p port : ℕ) → Goes u n (portStatus p port)
   unfolding portStatus

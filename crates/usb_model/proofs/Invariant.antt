@@ -9,8 +9,9 @@ use native.Mathlib.Decide.{ℕ-discrete}
 use Rattle.usb_store.specs.Layout.{Used, Number, Status, Hub, ConfigurationValue, Child}
 use Rattle.usb_store.specs.Access.{byteAt}
 use Rattle.usb_store.specs.Values.{Configured}
+use Rattle.usb_sound.specs.Sound.{IsUsed}
 use Rattle.usb_model.specs.History.{Event, setsAddress, configures, count}
-use Rattle.usb_model.specs.Demand3.{Once, ago, NoResetSince, EndedWell, Device, ShownConfigured, Stands, Addressed, ConfiguredWith, Anything, Story, root, child}
+use Rattle.usb_model.specs.Demand3.{Once, ago, NoResetSince, EndedWell, ShownConfigured, Stands, Addressed, ConfiguredWith, Anything, Story, root, child}
 use Rattle.usb_model.proofs.Triples.{State, store}
 use Rattle.usb_model.proofs.Quiet.{Key, used, number, status, hub, value, Keys, Adds, none, more, Quiet}
 use Rattle.usb_model.proofs.Quiet as Quiet
@@ -51,7 +52,8 @@ pub once-adds : {E : Event → Type 0} {P : List Event → Type 0} {h h′ : Lis
 once-adds none o = o
 once-adds (more e a) o = ago (once-adds a o)
 
-pub count-adds : {E : Event → Type 0} (f : Event → Bool) {h h′ : List Event} → ((e : Event) → E e → f e ≡ false) → Adds E h h′ → count f h′ ≡ count f h
+pub count-adds : {E : Event → Type 0} (f : Event → Bool) {h h′ : List Event} → ((e : Event) → E e → f e ≡ false) → Adds E h h′
+    → count f h′ ≡ count f h
 unfolding count
 count-adds f k none = refl
 count-adds f k (more {e} {h′} v a) = rw (k e v) (omega (arith, count-adds f k a))
@@ -128,8 +130,8 @@ pub calm-held : {h₀ : List Event} {X : ℕ → Type 0} {s t : State h₀} → 
 calm-held r = record { keep = λ q g k. r .keep q g (held-key k); past = Quiet.adds-map (λ e c. calm-aside c) (r .past) }
 
 module _ {h₀ : List Event} {X : ℕ → Type 0} {s t : State h₀} (r : Quiet (Held X) (Aside X) s t) where
-  device-kept : {q : ℕ} → Device (store s) q → Device (store t) q
-  device-kept {q} d = record { inside = d .inside; used = r .keep q Used its-use ∙ d .used }
+  device-kept : {q : ℕ} → IsUsed (store s) q → IsUsed (store t) q
+  device-kept {q} d = (d .0, r .keep q Used its-use ∙ d .1)
 
   pub stands-kept : {h j q : ℕ} → Stands (store s) h j q → Stands (store t) h j q
   stands-kept {h} {j} x = record { device = device-kept (x .device); low = x .low; child = r .keep h (Child j) (its-child j (x .low)) ∙ x .child }
@@ -142,7 +144,9 @@ module _ {h₀ : List Event} {X : ℕ → Type 0} {s t : State h₀} (r : Quiet 
   not-of {q} n p e x = n (subst X (let f : p ≡ q = omega arith in f) x)
 
   pub place-kept : {q : ℕ} → (X q → ⊥) → PlaceInv (store s) (s .past) q → PlaceInv (store t) (t .past) q
-  place-kept {q} n i = place-map q (λ h j. stands-kept) (count-kept (q + 1) (not-of n)) (λ P. once-adds (r .past)) (λ g o. r .keep q g (other n (own-key o))) i
+  place-kept {q} n i =
+      place-map q (λ h j. stands-kept) (count-kept (q + 1) (not-of n)) (λ P. once-adds (r .past)) (λ g o. r .keep q g (other n (own-key o)))
+      i
 
   pub but-kept : But X s → But X t
   but-kept i = record {
@@ -162,7 +166,8 @@ Only x q = q ≡ x
 pub aside : {h₀ : List Event} {s : State h₀} (x : ℕ) → Inv s → But (Only x) s
 aside x i = record { place = λ p l n. i .place p l (λ z. z); belongs = λ n d l. i .belongs n (λ q e z. z) l }
 
-pub back : {h₀ : List Event} {s : State h₀} (x : ℕ) → But (Only x) s → PlaceInv (store s) (s .past) x → (0 < count (configures (x + 1)) (s .past) → ShownConfigured (store s) x) → Inv s
+pub back : {h₀ : List Event} {s : State h₀} (x : ℕ) → But (Only x) s → PlaceInv (store s) (s .past) x
+    → (0 < count (configures (x + 1)) (s .past) → ShownConfigured (store s) x) → Inv s
 back {h₀} {s} x i p b = record { place = λ q l _. at-place q l (ℕ-discrete q x); belongs = λ n _ l. at-address n l (ℕ-discrete n (x + 1)) }
   where
     at-place : (q : ℕ) → q < 32 → Dec (q ≡ x) → PlaceInv (store s) (s .past) q

@@ -35,17 +35,20 @@ module _ {S : Type 0} {P P′ : S → Type 0} (weaker : (s : S) → P s → P′
   left-weaker (is-failed p) = is-failed (weaker _ p)
   left-weaker (is-halted p) = is-halted (weaker _ p)
 
-  left-on : {A B : Type 0} {Q : A → Type 0} {Q′ : B → Type 0} {r : Ran S A} {k : A → Program S B} → Left P Q r → ((a : A) → Q a → Safe P P′ (k a) Q′) → Left P′ Q′ (on r k)
+  left-on : {A B : Type 0} {Q : A → Type 0} {Q′ : B → Type 0} {r : Ran S A} {k : A → Program S B} → Left P Q r
+      → ((a : A) → Q a → Safe P P′ (k a) Q′) → Left P′ Q′ (on r k)
   left-on (is-done {a} {s} p q) f = f a q .run s p
   left-on (is-failed p) f = is-failed (weaker _ p)
   left-on (is-halted p) f = is-halted (weaker _ p)
 
   -- first a program that keeps P
-  pub bind-to : {A B : Type 0} {Q : A → Type 0} {Q′ : B → Type 0} {m : Program S A} {k : A → Program S B} → Keeps P m Q → ((a : A) → Q a → Safe P P′ (k a) Q′) → Safe P P′ (m >>= k) Q′
+  pub bind-to : {A B : Type 0} {Q : A → Type 0} {Q′ : B → Type 0} {m : Program S A} {k : A → Program S B} → Keeps P m Q
+      → ((a : A) → Q a → Safe P P′ (k a) Q′) → Safe P P′ (m >>= k) Q′
   unfolding _>>=_
   bind-to h f = record { run = λ s p. left-on (h .run s p) f }
 
-  pub next-to : {A B : Type 0} {Q : A → Type 0} {Q′ : B → Type 0} {m : Program S A} {k : Program S B} → Keeps P m Q → Safe P P′ k Q′ → Safe P P′ (m >> k) Q′
+  pub next-to : {A B : Type 0} {Q : A → Type 0} {Q′ : B → Type 0} {m : Program S A} {k : Program S B} → Keeps P m Q → Safe P P′ k Q′
+      → Safe P P′ (m >> k) Q′
   unfolding _>>_
   next-to h f = record { run = λ s p. left-on (h .run s p) (λ _ _. f) }
 
@@ -59,7 +62,8 @@ module _ {S : Type 0} {P P′ : S → Type 0} (weaker : (s : S) → P s → P′
   whens-to false h = skips-to
 
   -- after a test that refuses
-  pub unless-to : {B : Type 0} {Q : B → Type 0} (b : Bool) (e : ErrorCode) (k : Program S B) → (b ≡ false → Safe P P′ k Q) → Safe P P′ (when b (throw e) >> k) Q
+  pub unless-to : {B : Type 0} {Q : B → Type 0} (b : Bool) (e : ErrorCode) (k : Program S B) → (b ≡ false → Safe P P′ k Q)
+      → Safe P P′ (when b (throw e) >> k) Q
   unfolding when throw skip _>>_
   unless-to true e k h = record { run = λ s p. is-failed (weaker s p) }
   unless-to false e k h = h refl
@@ -75,10 +79,12 @@ caught-left (is-failed p) = is-done p tt
 caught-left (is-halted p) = is-halted p
 
 module _ {S : Type 0} {P : S → Type 0} where
-  pub bind : {A B : Type 0} {Q : A → Type 0} {Q′ : B → Type 0} {m : Program S A} {k : A → Program S B} → Keeps P m Q → ((a : A) → Q a → Keeps P (k a) Q′) → Keeps P (m >>= k) Q′
+  pub bind : {A B : Type 0} {Q : A → Type 0} {Q′ : B → Type 0} {m : Program S A} {k : A → Program S B} → Keeps P m Q
+      → ((a : A) → Q a → Keeps P (k a) Q′) → Keeps P (m >>= k) Q′
   bind h f = bind-to (λ s p. p) h f
 
-  pub next : {A B : Type 0} {Q : A → Type 0} {Q′ : B → Type 0} {m : Program S A} {k : Program S B} → Keeps P m Q → Keeps P k Q′ → Keeps P (m >> k) Q′
+  pub next : {A B : Type 0} {Q : A → Type 0} {Q′ : B → Type 0} {m : Program S A} {k : Program S B} → Keeps P m Q → Keeps P k Q′
+      → Keeps P (m >> k) Q′
   next h f = next-to (λ s p. p) h f
 
   pub gives : {A : Type 0} {Q : A → Type 0} (a : A) → Q a → Keeps P (return a) Q
@@ -127,16 +133,19 @@ module _ {S : Type 0} {P : S → Type 0} where
   whens b h = whens-to (λ s p. p) b (λ _. h)
 
   -- after a test that refuses
-  pub unless : {B : Type 0} {Q : B → Type 0} (b : Bool) (e : ErrorCode) (k : Program S B) → (b ≡ false → Keeps P k Q) → Keeps P (when b (throw e) >> k) Q
+  pub unless : {B : Type 0} {Q : B → Type 0} (b : Bool) (e : ErrorCode) (k : Program S B) → (b ≡ false → Keeps P k Q)
+      → Keeps P (when b (throw e) >> k) Q
   unless b e k h = unless-to (λ s p. p) b e k h
 
   -- after a test that stops the call
-  pub stops-if : {B : Type 0} {Q : B → Type 0} (b : Bool) (h : Halt) (k : Program S B) → (b ≡ false → Keeps P k Q) → Keeps P (when b (stop h) >> k) Q
+  pub stops-if : {B : Type 0} {Q : B → Type 0} (b : Bool) (h : Halt) (k : Program S B) → (b ≡ false → Keeps P k Q)
+      → Keeps P (when b (stop h) >> k) Q
   unfolding when stop skip _>>_
   stops-if true h k f = record { run = λ s p. is-halted p }
   stops-if false h k f = f refl
 
-  pub eachs : (n from : ℕ) {body : ℕ → Program S (Unit {0})} → ((i : ℕ) → i < from + n → Keeps P (body i) Any) → Keeps P (each n from body) Any
+  pub eachs : (n from : ℕ) {body : ℕ → Program S (Unit {0})} → ((i : ℕ) → i < from + n → Keeps P (body i) Any)
+      → Keeps P (each n from body) Any
   unfolding each
   eachs zero from h = skips
   eachs (suc n) from h = next (h from (omega arith)) (eachs n (from + 1) (λ i l. h i (omega arith)))

@@ -50,22 +50,32 @@ pub record Sendable (K : ℕ → ℕ → Type 0) (p : ℕ) (q : UsbDeviceRequest
 head-plain : (f : ℕ) → 8 ≤ f → f ≤ 12 → Plain f 4
 head-plain f l m = record { past = omega arith; room = omega arith; apart = inl (omega arith) }
 
-head-other : {K : ℕ → ℕ → Type 0} (p f v r g : ℕ) (t : List ℕ) → Clear K p 8 8 → 8 ≤ f → f ≤ 12 → K r g → byteAt (withNumber t p f 4 v) r g ≡ byteAt t r g
+head-other : {K : ℕ → ℕ → Type 0} (p f v r g : ℕ) (t : List ℕ) → Clear K p 8 8 → 8 ≤ f → f ≤ 12 → K r g
+    → byteAt (withNumber t p f 4 v) r g ≡ byteAt t r g
 head-other p f v r g t c l m k = byte-other t p f (littleEndian 4 v) r g (part (c .apart r g k))
   where
     part : Apart p 8 8 r g 1 → Apart p f (length (littleEndian 4 v)) r g 1
-    part = ⊎-elim (λ (a : p * 1152 + 8 + 8 ≤ r * 1152 + g). inl (omega (arith, length-le 4 v))) (λ (a : r * 1152 + g + 1 ≤ p * 1152 + 8). inr (omega arith))
+    part =
+        ⊎-elim (λ (a : p * 1152 + 8 + 8 ≤ r * 1152 + g). inl (omega (arith, length-le 4 v)))
+        (λ (a : r * 1152 + g + 1 ≤ p * 1152 + 8). inr (omega arith))
 
 head-follows : {h₀ : List Event} (p f v : ℕ) (s : State h₀) → 8 ≤ f → f ≤ 12 → Follows (store s) (withNumber (store s) p f 4 v)
-head-follows p f v s l m = plain-follows (s .good) p f (littleEndian 4 v) (plain-less (omega (arith, length-le 4 v)) (head-plain f l m)) (bytes-le 4 v)
+head-follows p f v s l m =
+    plain-follows (s .good) p f (littleEndian 4 v) (plain-less (omega (arith, length-le 4 v)) (head-plain f l m)) (bytes-le 4 v)
 
 -- what is delivered goes to a buffer that fits
-buffer-follows : {h₀ : List Event} (p : ℕ) (b : Buffer) (vs : List ℕ) (s : State h₀) → Fits b → Bytes vs → Follows (store s) (withBytes (store s) p (b .field) (take (b .room) vs))
+buffer-follows : {h₀ : List Event} (p : ℕ) (b : Buffer) (vs : List ℕ) (s : State h₀) → Fits b → Bytes vs
+    → Follows (store s) (withBytes (store s) p (b .field) (take (b .room) vs))
 buffer-follows p b vs s (room-none e) c = rw e (none-follows (s .good) p (b .field))
-buffer-follows p b vs s (plain r) c = plain-follows (s .good) p (b .field) (take (b .room) vs) (plain-less (omega (arith, length-take (b .room) vs)) r) (bytes-take (b .room) vs c)
+buffer-follows p b vs s (plain r) c =
+    plain-follows (s .good) p (b .field) (take (b .room) vs) (plain-less (omega (arith, length-take (b .room) vs)) r)
+    (bytes-take (b .room) vs c)
 
-buffer-other : {K : ℕ → ℕ → Type 0} (p : ℕ) (b : Buffer) (vs t : List ℕ) (r g : ℕ) → Clear K p (b .field) (b .room) → K r g → byteAt (withBytes t p (b .field) (take (b .room) vs)) r g ≡ byteAt t r g
-buffer-other p b vs t r g c k = byte-other t p (b .field) (take (b .room) vs) r g (apart-less p (b .field) (length (take (b .room) vs)) (b .room) r g (omega (arith, length-take (b .room) vs)) (c .apart r g k))
+buffer-other : {K : ℕ → ℕ → Type 0} (p : ℕ) (b : Buffer) (vs t : List ℕ) (r g : ℕ) → Clear K p (b .field) (b .room) → K r g
+    → byteAt (withBytes t p (b .field) (take (b .room) vs)) r g ≡ byteAt t r g
+buffer-other p b vs t r g c k =
+    byte-other t p (b .field) (take (b .room) vs) r g
+    (apart-less p (b .field) (length (take (b .room) vs)) (b .room) r g (omega (arith, length-take (b .room) vs)) (c .apart r g k))
 
 module _ {h₀ : List Event} (K : ℕ → ℕ → Type 0) (p : ℕ) (q : UsbDeviceRequest) (b : Buffer) where
   -- t came from a state of P by the request q to an address, with the outcome o
@@ -76,7 +86,8 @@ module _ {h₀ : List Event} (K : ℕ → ℕ → Type 0) (p : ℕ) (q : UsbDevi
     pub past : t .past ≡ asked address q o ∷ before .past
     pub bytes : Bytes (o .delivered)
     pub short : length (o .delivered) ≤ q .length
-    pub holds : p < 32 → 16 ≤ b .field → b .field + b .room ≤ 1152 → length (o .delivered) ≡ b .room → bytesAt (store t) p (b .field) (b .room) ≡ o .delivered
+    pub holds : p < 32 → 16 ≤ b .field → b .field + b .room ≤ 1152 → length (o .delivered) ≡ b .room
+        → bytesAt (store t) p (b .field) (b .room) ≡ o .delivered
 
   -- the same before the buffer is written
   record Noted (P : State h₀ → Type 0) (address : ℕ) (o : Outcome) (t : State h₀) : Type 0 where
@@ -131,7 +142,8 @@ module _ {h₀ : List Event} (K : ℕ → ℕ → Type 0) (p : ℕ) (q : UsbDevi
         bytes = a .bytes;
         short = a .short;
         holds = λ inside high room long.
-            bytes-other (store s) p LastTransfer (littleEndian 4 v) p (b .field) (b .room) (inl (omega (arith, length-le 4 v))) ∙ a .holds inside high room long;
+            bytes-other (store s) p LastTransfer (littleEndian 4 v) p (b .field) (b .room) (inl (omega (arith, length-le 4 v)))
+            ∙ a .holds inside high room long;
       },
     ))
 
@@ -147,7 +159,8 @@ module _ {h₀ : List Event} (K : ℕ → ℕ → Type 0) (p : ℕ) (q : UsbDevi
     pub answered : Answered P address outcome t
     pub failed : acknowledged outcome ≡ false
 
-  pub message-does : {P : State h₀ → Type 0} → Sendable K p q b → (address : ℕ) → address < 256 → Does P (usbControlMessage p address q b) (Acknowledged P address) (Unacknowledged P address)
+  pub message-does : {P : State h₀ → Type 0} → Sendable K p q b → (address : ℕ) → address < 256
+      → Does P (usbControlMessage p address q b) (Acknowledged P address) (Unacknowledged P address)
   unfolding usbControlMessage acknowledged
   message-does {P} send address h =
       does-bind (does-get p Speed) λ speed.
@@ -163,27 +176,36 @@ module _ {h₀ : List Event} (K : ℕ → ℕ → Type 0) (p : ℕ) (q : UsbDevi
       (does-return (o .delivered) (λ s a. record { outcome = o; answered = a .0; good = a .1; is = refl }))))))
 
   -- a request to the device's own number
-  pub control-does : {P : State h₀ → Type 0} → Sendable K p q b → (address : ℕ) → ((s : State h₀) → P s → byteAt (store s) p Number ≡ address) → Does P (control p q b) (Acknowledged P address) (Unacknowledged P address)
+  pub control-does : {P : State h₀ → Type 0} → Sendable K p q b → (address : ℕ)
+      → ((s : State h₀) → P s → byteAt (store s) p Number ≡ address)
+      → Does P (control p q b) (Acknowledged P address) (Unacknowledged P address)
   unfolding control
   control-does {P} send address e =
-      does-known _ p Number address e (does-given (λ s x. subst (λ (v : ℕ). v < 256) (e s x) (byte-at (store s) p Number (s .good .store))) λ low. message-does send address low)
+      does-known _ p Number address e (does-given (λ s x. subst (λ (v : ℕ). v < 256) (e s x) (byte-at (store s) p Number (s .good .store)))
+      λ low. message-does send address low)
 
   -- ---- as a step that keeps K and adds an event of E
 
-  answered-quiet : {E : Event → Type 0} {s t : State h₀} {address : ℕ} {o : Outcome} → ((o : Outcome) → E (asked address q o)) → Answered (λ u. u ≡ s) address o t → Quiet K E s t
-  answered-quiet {E} {s} {t} {address} {o} e a = subst (λ (u : State h₀). Quiet K E u t) (a .pre) (record { keep = a .keep; past = adds-one (e o) (a .past) })
+  answered-quiet : {E : Event → Type 0} {s t : State h₀} {address : ℕ} {o : Outcome} → ((o : Outcome) → E (asked address q o))
+      → Answered (λ u. u ≡ s) address o t → Quiet K E s t
+  answered-quiet {E} {s} {t} {address} {o} e a =
+      subst (λ (u : State h₀). Quiet K E u t) (a .pre) (record { keep = a .keep; past = adds-one (e o) (a .past) })
 
-  pub message-quiet : {E : Event → Type 0} → Sendable K p q b → ((address : ℕ) (o : Outcome) → E (asked address q o)) → (address : ℕ) → address < 256 → Gives {h₀ = h₀} (Quiet K E) Bytes (usbControlMessage p address q b)
+  pub message-quiet : {E : Event → Type 0} → Sendable K p q b → ((address : ℕ) (o : Outcome) → E (asked address q o)) → (address : ℕ)
+      → address < 256 → Gives {h₀ = h₀} (Quiet K E) Bytes (usbControlMessage p address q b)
   message-quiet {E} send e address h = record {
     run = λ s. leads-map (message-does {P = λ u. u ≡ s} send address h .run s refl)
         (λ bytes t a. (answered-quiet (e address) (a .answered), subst Bytes (sym (a .is)) (a .answered .bytes)))
         (λ t a. answered-quiet (e address) (a .answered));
   }
 
-  pub control-quiet : {E : Event → Type 0} → Sendable K p q b → ((address : ℕ) (o : Outcome) → E (asked address q o)) → Gives {h₀ = h₀} (Quiet K E) Bytes (control p q b)
+  pub control-quiet : {E : Event → Type 0} → Sendable K p q b → ((address : ℕ) (o : Outcome) → E (asked address q o))
+      → Gives {h₀ = h₀} (Quiet K E) Bytes (control p q b)
   unfolding control
   control-quiet {E} send e = k-bind (quiet-order K E) (k-get (quiet-order K E) p Number) λ address h. message-quiet send e address h
 
-  pub read-quiet : {E : Event → Type 0} → Sendable K p q b → ((address : ℕ) (o : Outcome) → E (asked address q o)) → (minimum : ℕ) → Gives {h₀ = h₀} (Quiet K E) Bytes (read p q minimum b)
+  pub read-quiet : {E : Event → Type 0} → Sendable K p q b → ((address : ℕ) (o : Outcome) → E (asked address q o)) → (minimum : ℕ)
+      → Gives {h₀ = h₀} (Quiet K E) Bytes (read p q minimum b)
   unfolding read
-  read-quiet {E} send e minimum = k-bind (quiet-order K E) (control-quiet send e) λ bytes h. k-next (quiet-order K E) (k-when (quiet-order K E) _ (k-throw (quiet-order K E) _)) (k-return (quiet-order K E) bytes h)
+  read-quiet {E} send e minimum = k-bind (quiet-order K E) (control-quiet send e) λ bytes h. k-next (quiet-order K E)
+      (k-when (quiet-order K E) _ (k-throw (quiet-order K E) _)) (k-return (quiet-order K E) bytes h)

@@ -25,7 +25,9 @@ pub data Origin (s : List ℕ) (x : ℕ) (R : ℕ → ℕ → List Event → Typ
   is-root : x ≡ 0 → Origin s x R h
   is-child : {hub port : ℕ} → Stands s hub port x → R hub port h → Origin s x R h
 
-pub origin-map : {s s′ : List ℕ} {x : ℕ} {R R′ : ℕ → ℕ → List Event → Type 0} {h h′ : List Event} → ((hub port : ℕ) → Stands s hub port x → Stands s′ hub port x) → ((hub port : ℕ) → R hub port h → R′ hub port h′) → Origin s x R h → Origin s′ x R′ h′
+pub origin-map : {s s′ : List ℕ} {x : ℕ} {R R′ : ℕ → ℕ → List Event → Type 0} {h h′ : List Event}
+    → ((hub port : ℕ) → Stands s hub port x → Stands s′ hub port x) → ((hub port : ℕ) → R hub port h → R′ hub port h′) → Origin s x R h
+    → Origin s′ x R′ h′
 origin-map f g (is-root e) = is-root e
 origin-map f g (is-child {hub} {port} t r) = is-child (f hub port t) (g hub port r)
 
@@ -72,18 +74,23 @@ module _ {h₀ : List Event} where
     pub inv : Inv s
     pub known : Hubs H s
 
-  pub hubs-kept : {H : ℕ → Type 0} {s t : State h₀} → ((q : ℕ) → H q → byteAt (store t) q Hub ≡ byteAt (store s) q Hub) → firstUnused (store s) ≤ firstUnused (store t) → Hubs H s → Hubs H t
+  pub hubs-kept : {H : ℕ → Type 0} {s t : State h₀} → ((q : ℕ) → H q → byteAt (store t) q Hub ≡ byteAt (store s) q Hub)
+      → firstUnused (store s) ≤ firstUnused (store t) → Hubs H s → Hubs H t
   hubs-kept e f k = record { hubs = λ q h z. k .hubs q h (sym (e q h) ∙ z); first = λ q h. omega (arith, f, k .first q h) }
 
   pub fine-calm : {H : ℕ → Type 0} {s t : State h₀} → Quiet Keys Calm s t → Fine H s → Fine H t
-  fine-calm {H} {s} {t} r f = record { inv = but-kept (calm-held r) (f .inv); known = hubs-kept (λ q _. r .keep q Hub hub) (use-kept (store s) (store t) (λ q. r .keep q Used Quiet.used)) (f .known) }
+  fine-calm {H} {s} {t} r f = record {
+    inv = but-kept (calm-held r) (f .inv);
+    known = hubs-kept (λ q _. r .keep q Hub hub) (use-kept (store s) (store t) (λ q. r .keep q Used Quiet.used)) (f .known);
+  }
 
   pub calm-of-still : {s t : State h₀} → Quiet Keys Still s t → Quiet Keys Calm s t
   calm-of-still r = record { keep = r .keep; past = adds-map (λ e x. x .calm) (r .past) }
 
   module _ {H : ℕ → Type 0} (x : ℕ) where
     -- a step that keeps every key and adds still events
-    pub mid-still : {R : ℕ → ℕ → List Event → Type 0} {st n c d : ℕ} {s t : State h₀} → Stable R → Quiet Keys Still s t → Mid H x R st n c d s → Mid H x R st n c d t
+    pub mid-still : {R : ℕ → ℕ → List Event → Type 0} {st n c d : ℕ} {s t : State h₀} → Stable R → Quiet Keys Still s t
+        → Mid H x R st n c d s → Mid H x R st n c d t
     mid-still {R} {s} {t} k r m =
         let calm = calm-of-still r in
         let held : Quiet (Held (Only x)) (Aside (Only x)) s t = calm-held calm in
@@ -101,7 +108,8 @@ module _ {h₀ : List Event} where
         }
 
     -- a write to the place itself, with what it leaves of its bytes
-    pub mid-write : {R : ℕ → ℕ → List Event → Type 0} {st n c d : ℕ} (st′ n′ : ℕ) {s : State h₀} (f : ℕ) (vs : List ℕ) (w : Follows (store s) (withBytes (store s) x f vs))
+    pub mid-write : {R : ℕ → ℕ → List Event → Type 0} {st n c d : ℕ} (st′ n′ : ℕ) {s : State h₀} (f : ℕ) (vs : List ℕ)
+        (w : Follows (store s) (withBytes (store s) x f vs))
         → 0 < f → f + length vs ≤ 96 → (f + length vs ≤ Hub) ⊎ (Hub < f)
         → byteAt (withBytes (store s) x f vs) x Status ≡ st′ → byteAt (withBytes (store s) x f vs) x Number ≡ n′
         → Mid H x R st n c d s → Mid H x R st′ n′ c d (stored s (withBytes (store s) x f vs) w)
@@ -110,25 +118,34 @@ module _ {h₀ : List Event} where
           but = but-kept held (m .but);
           used = held .keep x Used its-use ∙ m .used;
           status = new-status;
-          no-hub = byte-other (store s) x f vs x Hub (spot-apart x f (length vs) x Hub (omega arith) (omega arith) (λ _. apart)) ∙ m .no-hub;
+          no-hub =
+              byte-other (store s) x f vs x Hub (spot-apart x f (length vs) x Hub (omega arith) (omega arith) (λ _. apart)) ∙ m .no-hub;
           number = new-number;
           addressings = m .addressings;
           configurings = m .configurings;
           origin = origin-map (λ h j. stands-kept held) (λ h j r. r) (m .origin);
-          known = hubs-kept (λ q _. byte-other (store s) x f vs q Hub (spot-apart x f (length vs) q Hub (omega arith) (omega arith) (λ _. apart))) (w .first) (m .known);
+          known =
+              hubs-kept
+              (λ q _. byte-other (store s) x f vs q Hub (spot-apart x f (length vs) q Hub (omega arith) (omega arith) (λ _. apart)))
+              (w .first) (m .known);
           first = omega (arith, m .first, w .first);
         }
       where
         keep : (q g : ℕ) → Held (Only x) q g → byteAt (withBytes (store s) x f vs) q g ≡ byteAt (store s) q g
-        keep q g (other n k) = byte-other (store s) x f vs q g (spot-apart x f (length vs) q g (omega arith) (key-low k) (λ e. absurd (n (sym e))))
-        keep q g its-use = byte-other (store s) x f vs q Used (spot-apart x f (length vs) q Used (omega arith) (omega arith) (λ _. inr past))
-        keep q g (its-child j l) = byte-other (store s) x f vs q (Child j) (spot-apart x f (length vs) q (Child j) (omega arith) (omega arith) (λ _. inl (omega arith)))
+        keep q g (other n k) =
+            byte-other (store s) x f vs q g (spot-apart x f (length vs) q g (omega arith) (key-low k) (λ e. absurd (n (sym e))))
+        keep q g its-use =
+            byte-other (store s) x f vs q Used (spot-apart x f (length vs) q Used (omega arith) (omega arith) (λ _. inr past))
+        keep q g (its-child j l) =
+            byte-other (store s) x f vs q (Child j)
+            (spot-apart x f (length vs) q (Child j) (omega arith) (omega arith) (λ _. inl (omega arith)))
 
         held : Quiet (Held (Only x)) (Aside (Only x)) s (stored s (withBytes (store s) x f vs) w)
         held = record { keep = keep; past = none }
 
     -- one event that concerns no other place
-    pub mid-event : {R R′ : ℕ → ℕ → List Event → Type 0} {st n c d c′ d′ : ℕ} {s t : State h₀} (e : Event) → Aside (Only x) e → ((q g : ℕ) → Spared x q g → byteAt (store t) q g ≡ byteAt (store s) q g) → t .past ≡ e ∷ s .past
+    pub mid-event : {R R′ : ℕ → ℕ → List Event → Type 0} {st n c d c′ d′ : ℕ} {s t : State h₀} (e : Event) → Aside (Only x) e
+        → ((q g : ℕ) → Spared x q g → byteAt (store t) q g ≡ byteAt (store s) q g) → t .past ≡ e ∷ s .past
         → count (setsAddress (x + 1)) (e ∷ s .past) ≡ c′ → count (configures (x + 1)) (e ∷ s .past) ≡ d′
         → ((h j : ℕ) → R h j (s .past) → R′ h j (e ∷ s .past))
         → Mid H x R st n c d s → Mid H x R′ st n c′ d′ t
@@ -143,12 +160,15 @@ module _ {h₀ : List Event} where
           addressings = ap (count (setsAddress (x + 1))) past ∙ y;
           configurings = ap (count (configures (x + 1))) past ∙ z;
           origin = origin-map (λ h j. stands-kept held) (λ h j r. subst (R′ h j) (sym past) (k h j r)) (m .origin);
-          known = hubs-kept (λ q _. keep q Hub (spared hub (λ _. omega arith))) (use-kept (store s) (store t) (λ q. keep q Used (spared Quiet.used (λ _. omega arith)))) (m .known);
+          known =
+              hubs-kept (λ q _. keep q Hub (spared hub (λ _. omega arith)))
+              (use-kept (store s) (store t) (λ q. keep q Used (spared Quiet.used (λ _. omega arith)))) (m .known);
           first = omega (arith, m .first, use-kept (store s) (store t) (λ q. keep q Used (spared Quiet.used (λ _. omega arith))));
         }
 
     -- a place that is not configured is in order again
-    pub mid-fine : {R : ℕ → ℕ → List Event → Type 0} {st n c : ℕ} {s : State h₀} → st ≢ Configured → c ≡ expected st → Mid H x R st n c 0 s → Fine H s
+    pub mid-fine : {R : ℕ → ℕ → List Event → Type 0} {st n c : ℕ} {s : State h₀} → st ≢ Configured → c ≡ expected st → Mid H x R st n c 0 s
+        → Fine H s
     mid-fine {s = s} a e m = record {
       inv = back x (m .but) (record {
         fresh = λ z. absurd (omega (arith, z, m .used));

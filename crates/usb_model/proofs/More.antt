@@ -18,12 +18,12 @@ use Rattle.usb_types.specs.declared.types.Answer.{Answer}
 use Rattle.usb_types.specs.declared.types.Answer.the-variants.{Ok, Error, Stop}
 use Rattle.usb_types.specs.declared.request.UsbDeviceRequest.{UsbDeviceRequest}
 use Rattle.usb_types.specs.declared.pipe.UsbPipeAddress.{UsbPipeAddress}
-use Rattle.usb_store.specs.Access.{write}
 use Rattle.usb_store.proofs.Writes.{length-write}
 use Rattle.usb_model.specs.Programs.{if_then_else_, Ran, done, fail, halt, on, _>>=_, _>>_, return, skip, throw, stop, look, change, succeed, caught, attempt, ignore, when, each, endOf}
 use Rattle.usb_model.specs.World.{World, M, get, getBytes, getNumber, put, putBytes, putNumber, appended, counted, logAction, logRequest, microDelay, dwcUpdateHostFrameInterval}
 use Rattle.usb_model.specs.Transfer.{Outcome, taken, sizeOf, outcomeOf, takeOutcome}
 use Rattle.usb_model.specs.Kept.{requestsIn, Onward}
+use Rattle.usb_model.proofs.Ways.{Logged}
 use Rattle.usb_model.proofs.Onward.{onward-same, onward-join}
 use Rattle.usb_model.proofs.Primitives.{log-onward}
 
@@ -52,8 +52,9 @@ abbrev full : World → Bool
 full w = ltb (length (w .log) - w .at .logged) 16
 
 -- an action is logged
-logged : (w : World) (action : List ℕ) (requests : ℕ) → length action ≡ 16 → requests ≡ w .at .requests + requestsIn 1 action → full w ≡ false
-    → Grows w (record { store = w .store; log = write (w .log) (w .at .logged) action; outcomes = w .outcomes; at = record { logged = w .at .logged + 16; taken = w .at .taken; requests = requests } })
+logged : (w : World) (action : List ℕ) (requests : ℕ) → length action ≡ 16 → requests ≡ w .at .requests + requestsIn 1 action
+    → full w ≡ false
+    → Grows w (Logged w action requests)
 logged w action requests long e room = record {
   onward = log-onward action requests long e;
   fits = λ h. omega (arith, ltb-false (length (w .log) - w .at .logged) 16 room, length-write (w .log) (w .at .logged) action);
@@ -85,12 +86,14 @@ grows-caught (fail e v) g = g
 grows-caught (halt h v) g = g
 
 module _ {more : List ℕ} where
-  grows-on : {A B : Type 0} {w : World} {k : A → M B} (r : Ran World A) → Grown w (logOf (endOf r)) → ((a : A) → Extends more (k a)) → Grown w (logOf (endOf (on r k)))
+  grows-on : {A B : Type 0} {w : World} {k : A → M B} (r : Ran World A) → Grown w (logOf (endOf r)) → ((a : A) → Extends more (k a))
+      → Grown w (logOf (endOf (on r k)))
   grows-on (done a v) g f = join g (f a .grows v)
   grows-on (fail e v) g f = g
   grows-on (halt h v) g f = g
 
-  repeats-on : {A B : Type 0} {k : A → M B} {r r′ : Ran World A} → Repeats more r r′ → ((a : A) → Extends more (k a)) → Repeats more (on r k) (on r′ k)
+  repeats-on : {A B : Type 0} {k : A → M B} {r r′ : Ran World A} → Repeats more r r′ → ((a : A) → Extends more (k a))
+      → Repeats more (on r k) (on r′ k)
   repeats-on (same {r = done a v}) f = f a .repeats v
   repeats-on (same {r = fail e v}) f = same
   repeats-on (same {r = halt h v}) f = same
@@ -182,8 +185,10 @@ module _ {more : List ℕ} where
   -- ---- the log
 
   -- the test for room, and k after it
-  roomy : (k : Ran World (Unit {0}) → Ran World (Unit {0})) → ((w : World) → Grows w (endOf (k (halt LogFull w)))) → ((w : World) → full w ≡ false → Grows w (endOf (k (done tt w))))
-      → ((w : World) → Repeats more (k (halt LogFull w)) (k (halt LogFull (extended more w)))) → ((w : World) → Repeats more (k (done tt w)) (k (done tt (extended more w))))
+  roomy : (k : Ran World (Unit {0}) → Ran World (Unit {0})) → ((w : World) → Grows w (endOf (k (halt LogFull w))))
+      → ((w : World) → full w ≡ false → Grows w (endOf (k (done tt w))))
+      → ((w : World) → Repeats more (k (halt LogFull w)) (k (halt LogFull (extended more w))))
+      → ((w : World) → Repeats more (k (done tt w)) (k (done tt (extended more w))))
       → Extends more (λ w. k (cond (full w) (stop LogFull) skip w))
   unfolding stop skip
   roomy k a b c d = record { grows = λ w. grow w (full w) refl; repeats = λ w. repeat w (full w) }
@@ -199,7 +204,9 @@ module _ {more : List ℕ} where
   -- an action that is no request
   logs : (action : List ℕ) → length action ≡ 16 → requestsIn 1 action ≡ 0 → Extends more (logAction action)
   unfolding logAction _>>=_ _>>_ look when change
-  logs action long none = roomy (λ r. on r (λ _. change (appended action))) (λ w. still) (λ w e. logged w action _ long (omega (arith, none)) e) (λ w. same) (λ w. same)
+  logs action long none =
+      roomy (λ r. on r (λ _. change (appended action))) (λ w. still) (λ w e. logged w action _ long (omega (arith, none)) e) (λ w. same)
+      (λ w. same)
 
   pub waits : (microseconds : ℕ) → Extends more (microDelay microseconds)
   unfolding microDelay requestsIn
@@ -231,7 +238,8 @@ isCut rest = ltb (length rest) (4 + sizeOf rest)
 -- what `takeOutcome` does by these tests
 abbrev taking : ℕ → List ℕ → Bool → Bool → Bool → M Outcome
 taking asked rest short garbled cut =
-    when short (stop OutcomesSpent) >> (when garbled (stop GarbledOutcome) >> (when cut (stop OutcomesSpent) >> (change (taken (4 + sizeOf rest)) >> return (outcomeOf asked rest))))
+    when short (stop OutcomesSpent) >> (when garbled (stop GarbledOutcome) >> (when cut (stop OutcomesSpent)
+    >> (change (taken (4 + sizeOf rest)) >> return (outcomeOf asked rest))))
 
 abbrev takeFrom : ℕ → List ℕ → M Outcome
 takeFrom asked rest = taking asked rest (isShort rest) (isGarbled rest) (isCut rest)
@@ -248,7 +256,8 @@ grows-take asked rest w = grows-taking asked rest (isShort rest) (isGarbled rest
 
 module _ {more : List ℕ} (asked : ℕ) (w : World) {r : Ran World Outcome} (g : Grows w (endOf r)) where
   -- a whole header is left, and t after it
-  repeats-header : (a b c d : ℕ) (t : List ℕ) (garbled cut : Bool) → isCut (a ∷ b ∷ c ∷ d ∷ t) ≡ cut → r ≡ taking asked (a ∷ b ∷ c ∷ d ∷ (t ++ more)) false garbled (isCut (a ∷ b ∷ c ∷ d ∷ (t ++ more))) (extended more w)
+  repeats-header : (a b c d : ℕ) (t : List ℕ) (garbled cut : Bool) → isCut (a ∷ b ∷ c ∷ d ∷ t) ≡ cut
+      → r ≡ taking asked (a ∷ b ∷ c ∷ d ∷ (t ++ more)) false garbled (isCut (a ∷ b ∷ c ∷ d ∷ (t ++ more))) (extended more w)
       → Repeats more (taking asked (a ∷ b ∷ c ∷ d ∷ t) false garbled cut w) r
   unfolding _>>_ when stop skip change return
   repeats-header a b c d t true cut e h = rw h same
@@ -256,9 +265,14 @@ module _ {more : List ℕ} (asked : ℕ) (w : World) {r : Ran World Outcome} (g 
   repeats-header a b c d t false false e h =
       let size : ℕ = sizeOf (a ∷ b ∷ c ∷ d ∷ t) in
       let whole : 4 + size ≤ length (a ∷ b ∷ c ∷ d ∷ t) = ltb-false (length (a ∷ b ∷ c ∷ d ∷ t)) (4 + size) e in
-      rw (h, le-ltb (length (a ∷ b ∷ c ∷ d ∷ (t ++ more))) (4 + size) (omega (arith, length-append t more)), take-append-le (min size asked) t more (omega arith)) same
+      rw (
+        h,
+        le-ltb (length (a ∷ b ∷ c ∷ d ∷ (t ++ more))) (4 + size) (omega (arith, length-append t more)),
+        take-append-le (min size asked) t more (omega arith),
+      ) same
 
-  repeats-take : (rest : List ℕ) → (4 ≤ length rest → r ≡ takeFrom asked (rest ++ more) (extended more w)) → Repeats more (takeFrom asked rest w) r
+  repeats-take : (rest : List ℕ) → (4 ≤ length rest → r ≡ takeFrom asked (rest ++ more) (extended more w))
+      → Repeats more (takeFrom asked rest w) r
   unfolding _>>_ when stop
   repeats-take [] h = spent g
   repeats-take (a ∷ []) h = spent g
@@ -266,7 +280,8 @@ module _ {more : List ℕ} (asked : ℕ) (w : World) {r : Ran World Outcome} (g 
   repeats-take (a ∷ b ∷ c ∷ []) h = spent g
   repeats-take (a ∷ b ∷ c ∷ d ∷ t) h =
       rw (le-ltb (length (a ∷ b ∷ c ∷ d ∷ t)) 4 (omega arith))
-      (repeats-header a b c d t (isGarbled (a ∷ b ∷ c ∷ d ∷ t)) (isCut (a ∷ b ∷ c ∷ d ∷ t)) refl (rw (le-ltb (length (a ∷ b ∷ c ∷ d ∷ (t ++ more))) 4 (omega arith)) at (h (omega arith))))
+      (repeats-header a b c d t (isGarbled (a ∷ b ∷ c ∷ d ∷ t)) (isCut (a ∷ b ∷ c ∷ d ∷ t)) refl
+      (rw (le-ltb (length (a ∷ b ∷ c ∷ d ∷ (t ++ more))) 4 (omega arith)) at (h (omega arith))))
 
 pub takes : {more : List ℕ} (asked : ℕ) → Extends more (takeOutcome asked)
 unfolding takeOutcome _>>=_ look
@@ -275,7 +290,30 @@ takes {more} asked = record {
   repeats = λ w.
       let left : List ℕ = drop (w .at .taken) (w .outcomes) in
       repeats-take asked w (grows-take asked (drop (w .at .taken) (w .outcomes ++ more)) (extended more w)) left (λ h.
-      ap (λ (l : List ℕ). takeFrom asked l (extended more w)) (drop-append-le (w .at .taken) (w .outcomes) more (omega (arith, length-drop (w .at .taken) (w .outcomes)))));
+      ap (λ (l : List ℕ). takeFrom asked l (extended more w))
+      (drop-append-le (w .at .taken) (w .outcomes) more (omega (arith, length-drop (w .at .taken) (w .outcomes)))));
 }
 
-pub ruleset Steps = (bind, next, attempts, gives, skips, throws, succeeds, ignores, either, whens, eachs, gets, gets-bytes, gets-number, puts, puts-bytes, puts-number, waits, frames, requests, takes)
+pub ruleset Steps = (
+  bind,
+  next,
+  attempts,
+  gives,
+  skips,
+  throws,
+  succeeds,
+  ignores,
+  either,
+  whens,
+  eachs,
+  gets,
+  gets-bytes,
+  gets-number,
+  puts,
+  puts-bytes,
+  puts-number,
+  waits,
+  frames,
+  requests,
+  takes,
+)

@@ -20,7 +20,8 @@ unfolding requestsIn
 requests-append zero n [] b h = ap (λ (k : ℕ). requestsIn k b) (zero-add n) ∙ sym (zero-add (requestsIn n b))
 requests-append zero n (x ∷ a) b h = absurd (omega arith)
 requests-append (suc m) n a b h =
-    let rest : requestsIn (m + n) (drop 16 a ++ b) ≡ requestsIn m (drop 16 a) + requestsIn n b = requests-append m n (drop 16 a) b (omega (arith, length-drop 16 a)) in
+    let rest : requestsIn (m + n) (drop 16 a ++ b) ≡ requestsIn m (drop 16 a) + requestsIn n b =
+    requests-append m n (drop 16 a) b (omega (arith, length-drop 16 a)) in
     rw (suc-add, head-append a b (omega arith), drop-append-le 16 a b (omega arith)) (omega (arith, rest))
 
 pub onward-same : (w : World) → Onward w w

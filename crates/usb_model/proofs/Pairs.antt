@@ -30,7 +30,8 @@ pub record Pairs (u : World) (n : ℕ) {A : Type 0} (m m′ : M A) (Q : A → Ty
 abbrev pub Alike : World → ℕ → {A : Type 0} → M A → M A → Type 0
 Alike u n m m′ = Pairs u n m m′ Any
 
-weaker : {A : Type 0} {P P′ : World → Type 0} {Q : A → Type 0} {r r′ : Ran World A} → ((w : World) → P w → P′ w) → Same P Q r r′ → Same P′ Q r r′
+weaker : {A : Type 0} {P P′ : World → Type 0} {Q : A → Type 0} {r r′ : Ran World A} → ((w : World) → P w → P′ w) → Same P Q r r′
+    → Same P′ Q r r′
 weaker f s = record { equal = s .equal; walk = left-weaker f (s .walk) }
 
 module _ {u : World} {n : ℕ} where
@@ -38,27 +39,33 @@ module _ {u : World} {n : ℕ} where
   pub one : {A : Type 0} {Q : A → Type 0} {m : M A} → Walks u n m Q → Pairs u n m m Q
   one h = record { run = λ w x. record { equal = refl; walk = h .run w x } }
 
-  same-on : {A B : Type 0} {Q : A → Type 0} {Q′ : B → Type 0} {r : Ran World A} {f f′ : A → M B} → Left (Reach u n) Q r → ((a : A) → Q a → Pairs u n (f a) (f′ a) Q′) → Same (Reach u n) Q′ (on r f) (on r f′)
+  same-on : {A B : Type 0} {Q : A → Type 0} {Q′ : B → Type 0} {r : Ran World A} {f f′ : A → M B} → Left (Reach u n) Q r
+      → ((a : A) → Q a → Pairs u n (f a) (f′ a) Q′) → Same (Reach u n) Q′ (on r f) (on r f′)
   same-on (is-done {a} {s} x q) h = h a q .run s x
   same-on (is-failed x) h = record { equal = refl; walk = is-failed x }
   same-on (is-halted x) h = record { equal = refl; walk = is-halted x }
 
-  then-same : {A B : Type 0} {Q : A → Type 0} {Q′ : B → Type 0} {r r′ : Ran World A} {f f′ : A → M B} → Same (Reach u n) Q r r′ → ((a : A) → Q a → Pairs u n (f a) (f′ a) Q′) → Same (Reach u n) Q′ (on r f) (on r′ f′)
+  then-same : {A B : Type 0} {Q : A → Type 0} {Q′ : B → Type 0} {r r′ : Ran World A} {f f′ : A → M B} → Same (Reach u n) Q r r′
+      → ((a : A) → Q a → Pairs u n (f a) (f′ a) Q′) → Same (Reach u n) Q′ (on r f) (on r′ f′)
   then-same {Q′} {r} {f} {f′} s h = subst (λ x. Same (Reach u n) Q′ (on r f) (on x f′)) (s .equal) (same-on (s .walk) h)
 
-  pub bind₂ : {A B : Type 0} {Q : A → Type 0} {Q′ : B → Type 0} {m m′ : M A} {f f′ : A → M B} → Pairs u n m m′ Q → ((a : A) → Q a → Pairs u n (f a) (f′ a) Q′) → Pairs u n (m >>= f) (m′ >>= f′) Q′
+  pub bind₂ : {A B : Type 0} {Q : A → Type 0} {Q′ : B → Type 0} {m m′ : M A} {f f′ : A → M B} → Pairs u n m m′ Q
+      → ((a : A) → Q a → Pairs u n (f a) (f′ a) Q′) → Pairs u n (m >>= f) (m′ >>= f′) Q′
   unfolding _>>=_
   bind₂ p h = record { run = λ w x. then-same (p .run w x) h }
 
-  pub next₂ : {A B : Type 0} {Q : A → Type 0} {Q′ : B → Type 0} {m m′ : M A} {f f′ : M B} → Pairs u n m m′ Q → Pairs u n f f′ Q′ → Pairs u n (m >> f) (m′ >> f′) Q′
+  pub next₂ : {A B : Type 0} {Q : A → Type 0} {Q′ : B → Type 0} {m m′ : M A} {f f′ : M B} → Pairs u n m m′ Q → Pairs u n f f′ Q′
+      → Pairs u n (m >> f) (m′ >> f′) Q′
   unfolding _>>_
   next₂ p h = record { run = λ w x. then-same (p .run w x) (λ _ _. h) }
 
   -- first a program that does not attach
-  pub bind₁ : {A B : Type 0} {Q : A → Type 0} {Q′ : B → Type 0} {m : M A} {f f′ : A → M B} → Walks u n m Q → ((a : A) → Q a → Pairs u n (f a) (f′ a) Q′) → Pairs u n (m >>= f) (m >>= f′) Q′
+  pub bind₁ : {A B : Type 0} {Q : A → Type 0} {Q′ : B → Type 0} {m : M A} {f f′ : A → M B} → Walks u n m Q
+      → ((a : A) → Q a → Pairs u n (f a) (f′ a) Q′) → Pairs u n (m >>= f) (m >>= f′) Q′
   bind₁ h f = bind₂ (one h) f
 
-  pub next₁ : {A B : Type 0} {Q : A → Type 0} {Q′ : B → Type 0} {m : M A} {f f′ : M B} → Walks u n m Q → Pairs u n f f′ Q′ → Pairs u n (m >> f) (m >> f′) Q′
+  pub next₁ : {A B : Type 0} {Q : A → Type 0} {Q′ : B → Type 0} {m : M A} {f f′ : M B} → Walks u n m Q → Pairs u n f f′ Q′
+      → Pairs u n (m >> f) (m >> f′) Q′
   next₁ h f = next₂ (one h) f
 
   pub attempts₂ : {m m′ : M (Unit {0})} → Alike u n m m′ → Alike u n (attempt m) (attempt m′)
@@ -74,24 +81,29 @@ module _ {u : World} {n : ℕ} where
   whens₂ true p = p refl
   whens₂ false p = one skips
 
-  pub eachs₂ : (count from : ℕ) {body body′ : ℕ → M (Unit {0})} → ((i : ℕ) → i < from + count → Alike u n (body i) (body′ i)) → Alike u n (each count from body) (each count from body′)
+  pub eachs₂ : (count from : ℕ) {body body′ : ℕ → M (Unit {0})} → ((i : ℕ) → i < from + count → Alike u n (body i) (body′ i))
+      → Alike u n (each count from body) (each count from body′)
   unfolding each
   eachs₂ zero from h = one skips
   eachs₂ (suc count) from h = next₂ (h from (omega arith)) (eachs₂ count (from + 1) (λ i l. h i (omega arith)))
 
   -- the child at a port, if there is one: it stands above its hub, and the places up to it are known to be used
   pub child₂ : {B : Type 0} {Q : B → Type 0} {f f′ : ℕ → M B} (hub port : ℕ) → port < 10
-      → ((child m : ℕ) → n ≤ m → (eqb child 0 ≡ false → (hub + 1 < child) × (child ≤ m)) → Pairs u m (f child) (f′ child) Q) → Pairs u n (get hub (Child port) >>= f) (get hub (Child port) >>= f′) Q
+      → ((child m : ℕ) → n ≤ m → (eqb child 0 ≡ false → (hub + 1 < child) × (child ≤ m)) → Pairs u m (f child) (f′ child) Q)
+      → Pairs u n (get hub (Child port) >>= f) (get hub (Child port) >>= f′) Q
   unfolding get look _>>=_
   child₂ hub port h f = record {
     run = λ w x.
-        let stands : eqb (byteAt (w .store) hub (Child port)) 0 ≡ false → Above (w .store) hub port = λ e. x .good .child hub port h (eqb-false (byteAt (w .store) hub (Child port)) 0 e) in
+        let stands : eqb (byteAt (w .store) hub (Child port)) 0 ≡ false → Above (w .store) hub port =
+        λ e. x .good .child hub port h (eqb-false (byteAt (w .store) hub (Child port)) 0 e) in
         weaker (λ v. reach-less (onward-same u) (x .used))
-        (f (byteAt (w .store) hub (Child port)) (firstUnused (w .store)) (x .used) (λ e. (stands e .above, stands e .used)) .run w (record { onward = x .onward; good = x .good; used = omega arith }));
+        (f (byteAt (w .store) hub (Child port)) (firstUnused (w .store)) (x .used) (λ e. (stands e .above, stands e .used)) .run w
+        (record { onward = x .onward; good = x .good; used = omega arith }));
   }
 
   -- a place is allocated: from then on it is known to be used, and one place less is free
-  pub allocate₂ : {B : Type 0} {Q : B → Type 0} {f f′ : ℕ → M B} → ((v : World) (place : ℕ) → freePlaces (v .store) < freePlaces (u .store) → n ≤ place → place < 32 → Pairs v (place + 1) (f place) (f′ place) Q)
+  pub allocate₂ : {B : Type 0} {Q : B → Type 0} {f f′ : ℕ → M B}
+      → ((v : World) (place : ℕ) → freePlaces (v .store) < freePlaces (u .store) → n ≤ place → place < 32 → Pairs v (place + 1) (f place) (f′ place) Q)
       → Pairs u n (usbAllocateDevice >>= f) (usbAllocateDevice >>= f′) Q
   unfolding _>>=_
   allocate₂ {B} {Q} {f} {f′} h = record { run = λ w x. go w x (allocate-ends w) }
@@ -107,4 +119,8 @@ module _ {u : World} {n : ℕ} where
 
 -- where more is known, of a program that does so from every world
 pub known : {u : World} {n m : ℕ} {A : Type 0} {Q : A → Type 0} {p p′ : M A} → n ≤ m → ((v : World) → Pairs v n p p′ Q) → Pairs u m p p′ Q
-known {u} {n} {m} h p = record { run = λ w x. weaker (λ v y. record { onward = onward-join (x .onward) (y .onward); good = y .good; used = omega (arith, x .used, y .onward .first) }) (p w .run w (reach-here w (x .good) (omega (arith, x .used)))) }
+known {u} {n} {m} h p = record {
+  run = λ w x. weaker
+      (λ v y. record { onward = onward-join (x .onward) (y .onward); good = y .good; used = omega (arith, x .used, y .onward .first) })
+      (p w .run w (reach-here w (x .good) (omega (arith, x .used))));
+}

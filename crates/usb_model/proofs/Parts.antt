@@ -47,7 +47,8 @@ pub still-frame : Still framed
 unfolding setsAddress configures resets
 still-frame = still (λ n. refl) (λ n. refl) refl
 
-pub still-device : (type index size address : ℕ) (o : Outcome) → Still (asked address (deviceRequest ToDevice GetDescriptor (type * 256 + index) 0 size) o)
+pub still-device : (type index size address : ℕ) (o : Outcome)
+    → Still (asked address (deviceRequest ToDevice GetDescriptor (type * 256 + index) 0 size) o)
 unfolding setsAddress configures resets isRequest deviceRequest directionOf
 still-device type index size address o = still (λ n. refl) (λ n. refl) refl
 
@@ -63,7 +64,8 @@ pub still-port-status : (port address : ℕ) (o : Outcome) → Still (asked addr
 unfolding setsAddress configures resets isRequest deviceRequest directionOf
 still-port-status port address o = still (λ n. refl) (λ n. refl) refl
 
-pub still-clear : (feature port address : ℕ) (o : Outcome) → Still (asked address (deviceRequest ToPort ClearFeature feature (port + 1) 0) o)
+pub still-clear : (feature port address : ℕ) (o : Outcome)
+    → Still (asked address (deviceRequest ToPort ClearFeature feature (port + 1) 0) o)
 unfolding setsAddress configures resets isRequest deviceRequest directionOf
 still-clear feature port address o = still (λ n. refl) (λ n. refl) refl
 
@@ -78,12 +80,14 @@ calm-reset port address o = record { address = λ n. refl; configuration = λ n.
 
 -- ---- requests as they are sent
 
-two : (recipient code value index size : ℕ) → value < 65536 → index < 65536 → size < 65536 → TwoBytes (deviceRequest recipient code value index size)
+two : (recipient code value index size : ℕ) → value < 65536 → index < 65536 → size < 65536
+    → TwoBytes (deviceRequest recipient code value index size)
 unfolding deviceRequest
 two recipient code value index size a b c = record { value = a; index = b; length = c }
 
 -- a request that stores nothing
-pub sends-none : {K : ℕ → ℕ → Type 0} {p : ℕ} → Clear K p 8 8 → (recipient code value index : ℕ) → recipient < 128 → code < 256 → value < 65536 → index < 65536 → (size : ℕ) → size < 65536 → Sendable K p (deviceRequest recipient code value index size) nowhere
+pub sends-none : {K : ℕ → ℕ → Type 0} {p : ℕ} → Clear K p 8 8 → (recipient code value index : ℕ) → recipient < 128 → code < 256
+    → value < 65536 → index < 65536 → (size : ℕ) → size < 65536 → Sendable K p (deviceRequest recipient code value index size) nowhere
 sends-none {K} {p} head recipient code value index r c v i size l = record {
   codes = codes recipient code value index size r c;
   two = two recipient code value index size v i l;
@@ -93,7 +97,8 @@ sends-none {K} {p} head recipient code value index r c v i size l = record {
 }
 
 -- a request that stores into a field before the children
-pub sends-into : {K : ℕ → ℕ → Type 0} {p : ℕ} → Clear K p 8 8 → (field room : ℕ) → Clear K p field room → 0 < field → field + room ≤ 96 → (recipient code value index size : ℕ) → recipient < 128 → code < 256 → value < 65536 → index < 65536 → size < 65536
+pub sends-into : {K : ℕ → ℕ → Type 0} {p : ℕ} → Clear K p 8 8 → (field room : ℕ) → Clear K p field room → 0 < field → field + room ≤ 96
+    → (recipient code value index size : ℕ) → recipient < 128 → code < 256 → value < 65536 → index < 65536 → size < 65536
     → Sendable K p (deviceRequest recipient code value index size) (into field room)
 sends-into head field room clear past low recipient code value index size r c v i l = record {
   codes = codes recipient code value index size r c;
@@ -108,7 +113,8 @@ head-keys = keys-clear (eighth (omega arith) (omega arith))
 
 pub port-sendable : (p port : ℕ) → port < 10 → Sendable Keys p (deviceRequest ToPort GetStatus 0 (port + 1) 4) (into (PortStatus port) 4)
 port-sendable p port l =
-    sends-into head-keys (PortStatus port) 4 (keys-clear (fortieth (omega arith) (omega arith))) (omega arith) (omega arith) ToPort GetStatus 0 (port + 1) 4 (omega arith) (omega arith) (omega arith) (omega arith) (omega arith)
+    sends-into head-keys (PortStatus port) 4 (keys-clear (fortieth (omega arith) (omega arith))) (omega arith) (omega arith) ToPort
+    GetStatus 0 (port + 1) 4 (omega arith) (omega arith) (omega arith) (omega arith) (omega arith)
 
 module _ {h₀ : List Event} where
   abbrev pub Calmly : State h₀ → State h₀ → Type 0
@@ -121,10 +127,15 @@ module _ {h₀ : List Event} where
   order = quiet-order Keys Still
 
   added-quiet : {K : ℕ → ℕ → Type 0} {E : Event → Type 0} {s t : State h₀} {e : Event} → E e → Added (λ u. u ≡ s) e t → Quiet K E s t
-  added-quiet {K} {E} {s} {t} x a = subst (λ (u : State h₀). Quiet K E u t) (a .pre) (record { keep = λ q g k. ap (λ (l : List ℕ). byteAt l q g) (a .same); past = adds-one x (a .past) })
+  added-quiet {K} {E} {s} {t} x a =
+      subst (λ (u : State h₀). Quiet K E u t) (a .pre)
+      (record { keep = λ q g k. ap (λ (l : List ℕ). byteAt l q g) (a .same); past = adds-one x (a .past) })
 
   pub waits-still : (us : ℕ) → us < 256 ^ 4 → Keeps Stilly (microDelay us)
-  waits-still us h = record { run = λ s. leads-map (wait-adds {P = λ u. u ≡ s} {N = Stilly s} us h .run s refl) (λ a t x. (added-quiet (still-wait us) x, tt)) (λ t x. x) }
+  waits-still us h = record {
+    run = λ s. leads-map (wait-adds {P = λ u. u ≡ s} {N = Stilly s} us h .run s refl)
+        (λ a t x. (added-quiet (still-wait us) x, tt)) (λ t x. x);
+  }
 
   pub frame-still : Keeps Stilly dwcUpdateHostFrameInterval
   frame-still = record { run = λ s. leads-map (frame-adds {P = λ u. u ≡ s} {N = Stilly s} .run s refl) (λ a t x. (added-quiet still-frame x, tt)) (λ t x. x) }
@@ -132,14 +143,17 @@ module _ {h₀ : List Event} where
   device-still : (p minimum : ℕ) → Keeps Stilly (readDeviceDescriptor p minimum)
   unfolding readDeviceDescriptor usbGetDescriptor
   device-still p minimum = k-bind order
-      (read-quiet Keys p _ (into DeviceDescriptor 18) (sends-into head-keys DeviceDescriptor 18 (keys-clear (eighth (omega arith) (omega arith))) (omega arith) (omega arith) ToDevice GetDescriptor 256 0 18 (omega arith) (omega arith) (omega arith) (omega arith) (omega arith)) (still-device 1 0 18) minimum)
+      (read-quiet Keys p _ (into DeviceDescriptor 18)
+      (sends-into head-keys DeviceDescriptor 18 (keys-clear (eighth (omega arith) (omega arith))) (omega arith) (omega arith) ToDevice
+      GetDescriptor 256 0 18 (omega arith) (omega arith) (omega arith) (omega arith) (omega arith)) (still-device 1 0 18) minimum)
       λ bytes _. k-return order _ tt
 
   pub read-device-still : (p : ℕ) → Keeps Stilly (usbReadDeviceDescriptor p)
   unfolding usbReadDeviceDescriptor
   read-device-still p =
       k-bind order (k-get order p Speed) λ speed _.
-      k-next order (put-quiet Keys Still p MaxPacketSize0 _ (keys-clear (eighth (omega arith) (omega arith))) (small MaxPacketSize0 (omega arith) (omega arith)) (packet-small (eqb speed 2))) (
+      k-next order (put-quiet Keys Still p MaxPacketSize0 _ (keys-clear (eighth (omega arith) (omega arith)))
+      (small MaxPacketSize0 (omega arith) (omega arith)) (packet-small (eqb speed 2))) (
       k-if order (eqb speed 0)
       (k-next order (device-still p 18) (k-skip order))
       (k-bind order (device-still p 8) λ count _. k-when order _ (k-next order (device-still p 18) (k-skip order))))
@@ -147,19 +161,23 @@ module _ {h₀ : List Event} where
   pub hub-status-still : (p : ℕ) → Keeps Stilly (hubGetStatus p)
   unfolding hubGetStatus
   hub-status-still p = k-next order
-      (read-quiet Keys p _ (into HubStatus 4) (sends-into head-keys HubStatus 4 (keys-clear (fortieth (omega arith) (omega arith))) (omega arith) (omega arith) ToHub GetStatus 0 0 4 (omega arith) (omega arith) (omega arith) (omega arith) (omega arith)) still-hub-status _)
+      (read-quiet Keys p _ (into HubStatus 4) (sends-into head-keys HubStatus 4 (keys-clear (fortieth (omega arith) (omega arith)))
+      (omega arith) (omega arith) ToHub GetStatus 0 0 4 (omega arith) (omega arith) (omega arith) (omega arith) (omega arith))
+      still-hub-status _)
       (k-skip order)
 
   pub clear-still : (p feature port : ℕ) → feature < 65536 → port < 10 → Keeps Stilly (clearPortFeature p feature port)
   unfolding hubChangePortFeature
   clear-still p feature port h l = k-next order
-      (control-quiet Keys p _ nowhere (sends-none head-keys ToPort ClearFeature feature (port + 1) (omega arith) (omega arith) h (omega arith) 0 (omega arith)) (still-clear feature port))
+      (control-quiet Keys p _ nowhere (sends-none head-keys ToPort ClearFeature feature (port + 1) (omega arith) (omega arith) h
+      (omega arith) 0 (omega arith)) (still-clear feature port))
       (k-skip order)
 
   power-still : (p port : ℕ) → port < 10 → Keeps Stilly (setPortFeature p PORT-POWER port)
   unfolding hubChangePortFeature
   power-still p port l = k-next order
-      (control-quiet Keys p _ nowhere (sends-none head-keys ToPort SetFeature PORT-POWER (port + 1) (omega arith) (omega arith) (omega arith) (omega arith) 0 (omega arith)) (still-power port))
+      (control-quiet Keys p _ nowhere (sends-none head-keys ToPort SetFeature PORT-POWER (port + 1) (omega arith) (omega arith)
+      (omega arith) (omega arith) 0 (omega arith)) (still-power port))
       (k-skip order)
 
   k-most : (p : ℕ) → Gives Stilly (λ v. v ≤ 10) (get p MaxChildren)
@@ -181,7 +199,8 @@ module _ {h₀ : List Event} where
 
   pub port-status-still : (p port : ℕ) → port < 10 → Keeps Stilly (hubPortGetStatus p port)
   unfolding hubPortGetStatus
-  port-status-still p port l = k-next order (read-quiet Keys p _ (into (PortStatus port) 4) (port-sendable p port l) (still-port-status port) _) (k-skip order)
+  port-status-still p port l =
+      k-next order (read-quiet Keys p _ (into (PortStatus port) 4) (port-sendable p port l) (still-port-status port) _) (k-skip order)
 
   pub status-still : (p port : ℕ) → Keeps Stilly (portStatus p port)
   unfolding portStatus

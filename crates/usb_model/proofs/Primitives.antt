@@ -65,7 +65,9 @@ module _ {u : World} {n : ℕ} where
 
   pub puts-number : (p f k v : ℕ) → Plain f k → Goes u n (putNumber p f k v)
   unfolding putNumber
-  puts-number p f k v r = changes _ (λ w x. written _ x (plain-follows (x .good) p f (littleEndian k v) (plain-less (omega (arith, length-le k v)) r) (bytes-le k v)))
+  puts-number p f k v r =
+      changes _
+      (λ w x. written _ x (plain-follows (x .good) p f (littleEndian k v) (plain-less (omega (arith, length-le k v)) r) (bytes-le k v)))
 
   pub puts-most : (p v : ℕ) → p < n → v ≤ 10 → Goes u n (put p MaxChildren v)
   unfolding put
@@ -73,11 +75,14 @@ module _ {u : World} {n : ℕ} where
 
   pub puts-child : (p j c : ℕ) → j < 10 → p + 1 < c → c ≤ n → Goes u n (put p (Child j) c)
   unfolding put
-  puts-child p j c h above low = changes _ (λ w x. written _ x (child-follows (x .good) p j c (omega (arith, x .used, first-most (w .store))) h above (omega (arith, x .used))))
+  puts-child p j c h above low =
+      changes _
+      (λ w x. written _ x (child-follows (x .good) p j c (omega (arith, x .used, first-most (w .store))) h above (omega (arith, x .used))))
 
 -- ---- the log
 
-pub log-onward : {w : World} (action : List ℕ) (requests : ℕ) → length action ≡ 16 → requests ≡ w .at .requests + requestsIn 1 action → Onward w (Logged w action requests)
+pub log-onward : {w : World} (action : List ℕ) (requests : ℕ) → length action ≡ 16 → requests ≡ w .at .requests + requestsIn 1 action
+    → Onward w (Logged w action requests)
 log-onward {w} action requests long e = record {
   store = refl;
   free = omega arith;
@@ -92,7 +97,8 @@ log-onward {w} action requests long e = record {
   requests = e;
 }
 
-pub log-good : {w : World} (action : List ℕ) (requests : ℕ) → Bytes action → w .at .logged + 16 ≤ length (w .log) → Good w → Good (Logged w action requests)
+pub log-good : {w : World} (action : List ℕ) (requests : ℕ) → Bytes action → w .at .logged + 16 ≤ length (w .log) → Good w
+    → Good (Logged w action requests)
 log-good {w} action requests b room g = record {
   whole = g .whole;
   logged = omega (arith, length-write (w .log) (w .at .logged) action);
@@ -105,7 +111,8 @@ log-good {w} action requests b room g = record {
 }
 
 module _ {u : World} {n : ℕ} (action : List ℕ) (long : length action ≡ 16) (b : Bytes action) where
-  log-left : {w : World} {r : Ran World (Unit {0})} (requests : ℕ) → requests ≡ w .at .requests + requestsIn 1 action → Reach u n w → Logs action w requests r
+  log-left : {w : World} {r : Ran World (Unit {0})} (requests : ℕ) → requests ≡ w .at .requests + requestsIn 1 action → Reach u n w
+      → Logs action w requests r
       → Left (Reach u n) Any r
   log-left requests e x full = is-halted x
   log-left {w} requests e x (logged room) =
@@ -123,7 +130,8 @@ module _ {u : World} {n : ℕ} where
   pub waits : (microseconds : ℕ) → Goes u n (microDelay microseconds)
   unfolding microDelay requestsIn
   waits microseconds =
-      logs (waitAction microseconds) (wait-length microseconds) (bytes-append (bytes-cons (omega arith) (zeros 7)) (bytes-append (bytes-le 4 microseconds) (zeros 4))) refl
+      logs (waitAction microseconds) (wait-length microseconds)
+      (bytes-append (bytes-cons (omega arith) (zeros 7)) (bytes-append (bytes-le 4 microseconds) (zeros 4))) refl
 
   pub frames : Goes u n dwcUpdateHostFrameInterval
   unfolding dwcUpdateHostFrameInterval requestsIn
@@ -154,9 +162,11 @@ packet-low n = go (ltb n 9) (ltb n 17) (ltb n 33)
     go false false true = omega arith
     go false false false = omega arith
 
-pub request-bytes : (pipe : UsbPipeAddress) (q : UsbDeviceRequest) → pipe .device < 256 → pipe .speed < 256 → pipe .«max_size» < 256 → Byte-codes q → Bytes (requestAction pipe q)
+pub request-bytes : (pipe : UsbPipeAddress) (q : UsbDeviceRequest) → pipe .device < 256 → pipe .speed < 256 → pipe .«max_size» < 256
+    → Byte-codes q → Bytes (requestAction pipe q)
 request-bytes pipe q a s m c =
-    bytes-cons (omega arith) (bytes-cons a (bytes-cons (direction-low (q .«request_type»)) (bytes-cons s (bytes-cons m (bytes-cons (omega arith) (bytes-cons (omega arith) (bytes-cons (omega arith)
+    bytes-cons (omega arith) (bytes-cons a (bytes-cons (direction-low (q .«request_type»))
+    (bytes-cons s (bytes-cons m (bytes-cons (omega arith) (bytes-cons (omega arith) (bytes-cons (omega arith)
     (bytes-cons (c .type) (bytes-cons (c .code) (bytes-append (bytes-le 2 (q .value)) (bytes-append (bytes-le 2 (q .index)) (bytes-le 2 (q .length)))))))))))))
 
 took-onward : {w : World} (k : ℕ) → Onward w (taken k w)
@@ -199,7 +209,8 @@ takes {u} {n} asked = record { run = λ w x. go w x (take-ends asked w) }
     go : (w : World) → Reach u n w → {r : Ran World Outcome} → Takes asked w r → Left (Reach u n) (λ (o : Outcome). Bytes (o .delivered)) r
     go w x missing = is-halted x
     go w x (whole l) =
-        is-done (reach-on x (took-onward (4 + sizeOf (outcomesLeft w))) (took-good (4 + sizeOf (outcomesLeft w)) (omega (arith, l, length-drop (w .at .taken) (w .outcomes), x .good .taken)) (x .good)))
+        is-done (reach-on x (took-onward (4 + sizeOf (outcomesLeft w)))
+        (took-good (4 + sizeOf (outcomesLeft w)) (omega (arith, l, length-drop (w .at .taken) (w .outcomes), x .good .taken)) (x .good)))
         (delivered-bytes asked (x .good))
 
 -- where delivered bytes may go: no key of the place

@@ -133,7 +133,8 @@ module _ {h₀ : List Event} (K : ℕ → ℕ → Type 0) (E : Event → Type 0)
   }
 
   -- a write that leaves out the bytes K
-  pub write-quiet : (s : State h₀) (p f : ℕ) (vs : List ℕ) (n : ℕ) (x : Follows (store s) (withBytes (store s) p f vs)) → Clear K p f n → length vs ≤ n → Quiet s (stored s (withBytes (store s) p f vs) x)
+  pub write-quiet : (s : State h₀) (p f : ℕ) (vs : List ℕ) (n : ℕ) (x : Follows (store s) (withBytes (store s) p f vs)) → Clear K p f n
+      → length vs ≤ n → Quiet s (stored s (withBytes (store s) p f vs) x)
   write-quiet s p f vs n x c l = record {
     keep = λ q g k. byte-other (store s) p f vs q g (apart-less p f (length vs) n q g l (c .apart q g k));
     past = none;

@@ -57,7 +57,8 @@ read-last (suc n) log r =
     let more : 16 + 16 * n ≡ 16 * suc n = omega arith in
     ap (λ (k : ℕ). readLog k log r) (suc-add n 1)
     ∙ read-last n (drop 16 log) (readAction (take 16 log) r)
-    ∙ ap (λ (l : List ℕ). readAction (take 16 l) (readLog n (drop 16 log) (readAction (take 16 log) r))) (drop-drop (16 * n) 16 log ∙ ap (λ (k : ℕ). drop k log) more)
+    ∙ ap (λ (l : List ℕ). readAction (take 16 l) (readLog n (drop 16 log) (readAction (take 16 log) r)))
+    (drop-drop (16 * n) 16 log ∙ ap (λ (k : ℕ). drop k log) more)
 
 -- ---- what a world's log reads as, after the history h₀
 
@@ -67,9 +68,15 @@ pub record Reads (h₀ : List Event) (w : World) (h : List Event) : Type 0 where
   pub is : readLog actions (w .log) (reading h₀ (w .outcomes)) ≡ reading h (drop (w .at .taken) (w .outcomes))
 
 -- an action at the end of the log, which adds to the history and takes some outcomes
-pub reads-more : {h₀ h h′ : List Event} {w : World} (action : List ℕ) (taken requests : ℕ) → Reads h₀ w h → length action ≡ 16 → w .at .logged + 16 ≤ length (w .log)
+pub reads-more : {h₀ h h′ : List Event} {w : World} (action : List ℕ) (taken requests : ℕ) → Reads h₀ w h → length action ≡ 16
+    → w .at .logged + 16 ≤ length (w .log)
     → readAction action (reading h (drop (w .at .taken) (w .outcomes))) ≡ reading h′ (drop taken (w .outcomes))
-    → Reads h₀ (record { store = w .store; log = write (w .log) (w .at .logged) action; outcomes = w .outcomes; at = record { logged = w .at .logged + 16; taken = taken; requests = requests } }) h′
+    → Reads h₀ (record {
+      store = w .store;
+      log = write (w .log) (w .at .logged) action;
+      outcomes = w .outcomes;
+      at = record { logged = w .at .logged + 16; taken = taken; requests = requests };
+    }) h′
 reads-more {h₀} {h} {h′} {w} action taken requests r long room e = record {
   actions = r .actions + 1;
   logged = omega (arith, r .logged);
@@ -121,4 +128,5 @@ pub reads-request : (pipe : UsbPipeAddress) (q : UsbDeviceRequest) (r : Reading)
     → readAction (requestAction pipe q) r ≡ reading (asked (pipe .device) q (outcomeOf (q .length) (r .rest)) ∷ r .past) (drop (4 + sizeOf (r .rest)) (r .rest))
 unfolding readAction
 reads-request pipe q r t =
-    ap (λ (x : UsbDeviceRequest). reading (asked (pipe .device) x (outcomeOf (x .length) (r .rest)) ∷ r .past) (drop (4 + sizeOf (r .rest)) (r .rest))) (request-of pipe q t)
+    ap (λ (x : UsbDeviceRequest). reading (asked (pipe .device) x (outcomeOf (x .length) (r .rest)) ∷ r .past)
+    (drop (4 + sizeOf (r .rest)) (r .rest))) (request-of pipe q t)

@@ -37,7 +37,8 @@ module _ {D : List ℕ → Type 0} {P : Walk → Type 0} (c : Copies D P) where
 
   endpoint-keeps : (d : List ℕ) → D d → Keeps P (endpointDescriptor d) Any
   unfolding endpointDescriptor
-  endpoint-keeps d h = bind (peeks _) λ now _. whens _ (next (whens _ (throws _)) (next (whens _ (throws _)) (changes _ (λ k p. c .endpoint d k h p))))
+  endpoint-keeps d h =
+      bind (peeks _) λ now _. whens _ (next (whens _ (throws _)) (next (whens _ (throws _)) (changes _ (λ k p. c .endpoint d k h p))))
 
   kind-keeps : (kind : DescriptorKind) (d : List ℕ) → D d → Keeps P (descriptorOf kind d) Any
   unfolding descriptorOf whole
@@ -49,7 +50,8 @@ module _ {D : List ℕ → Type 0} {P : Walk → Type 0} (c : Copies D P) where
   unfolding walkFrom descriptor
   from-keeps zero d h = skips
   from-keeps (suc n) [] h = skips
-  from-keeps (suc n) (x ∷ d) h = bind (next (whens _ (throws _)) (kind-keeps _ (x ∷ d) h)) λ goes _. whens goes (from-keeps n (drop x (x ∷ d)) (c .rest x (x ∷ d) h))
+  from-keeps (suc n) (x ∷ d) h =
+      bind (next (whens _ (throws _)) (kind-keeps _ (x ∷ d) h)) λ goes _. whens goes (from-keeps n (drop x (x ∷ d)) (c .rest x (x ∷ d) h))
 
   all-keeps : (d : List ℕ) → D d → Keeps P (walkAll d) Any
   unfolding walkAll
@@ -117,7 +119,8 @@ unfolding when
 ends-same f f′ (done false k) well = refl
 ends-same f f′ (fail e k) badly = refl
 
-goes-same : (f f′ : Program Walk (Unit {0})) (r : Ran Walk Bool) → ((k : Walk) → f k ≡ f′ k) → on r (λ goes. when goes f) ≡ on r (λ goes. when goes f′)
+goes-same : (f f′ : Program Walk (Unit {0})) (r : Ran Walk Bool) → ((k : Walk) → f k ≡ f′ k)
+    → on r (λ goes. when goes f) ≡ on r (λ goes. when goes f′)
 unfolding when
 goes-same f f′ (done true k) h = h k
 goes-same f f′ (done false k) h = refl
@@ -135,9 +138,12 @@ walk-fuel (suc a) zero (z ∷ d) x y k = absurd (omega arith)
 walk-fuel (suc a) (suc b) [] x y k = refl
 walk-fuel (suc a) (suc b) (zero ∷ d) x y k = ends-same (walkFrom a (zero ∷ d)) (walkFrom b (zero ∷ d)) (descriptor (zero ∷ d) k) (ends d k)
 walk-fuel (suc a) (suc b) (suc z ∷ d) x y k =
-    goes-same (walkFrom a (drop z d)) (walkFrom b (drop z d)) (descriptor (suc z ∷ d) k) (walk-fuel a b (drop z d) (omega (arith, length-drop z d)) (omega (arith, length-drop z d)))
+    goes-same (walkFrom a (drop z d)) (walkFrom b (drop z d)) (descriptor (suc z ∷ d) k)
+    (walk-fuel a b (drop z d) (omega (arith, length-drop z d)) (omega (arith, length-drop z d)))
 
 -- so the number of the walk is enough
-pub walk-enough : (b size : ℕ) (d : List ℕ) → length (size ∷ d) ≤ b → (k : Walk) → walkAll (size ∷ d) k ≡ walkFrom b (drop size (size ∷ d)) k
+pub walk-enough : (b size : ℕ) (d : List ℕ) → length (size ∷ d) ≤ b → (k : Walk)
+    → walkAll (size ∷ d) k ≡ walkFrom b (drop size (size ∷ d)) k
 unfolding walkAll
-walk-enough b size d l k = walk-fuel _ b (drop size (size ∷ d)) (omega (arith, length-drop size (size ∷ d))) (omega (arith, length-drop size (size ∷ d))) k
+walk-enough b size d l k =
+    walk-fuel _ b (drop size (size ∷ d)) (omega (arith, length-drop size (size ∷ d))) (omega (arith, length-drop size (size ∷ d))) k

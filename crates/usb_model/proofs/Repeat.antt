@@ -131,7 +131,8 @@ module _ {more : List ℕ} where
     unfolding usbAttachDevice
     attach-device p = search (Steps, read-device-descriptor, set-address, configures, hub-attach) depth 40
 
-    scan-port : (below : ℕ → M (Unit {0})) → ((place : ℕ) → Extends more (below place)) → (p port : ℕ) → Extends more (scanPort attach below p port)
+    scan-port : (below : ℕ → M (Unit {0})) → ((place : ℕ) → Extends more (below place)) → (p port : ℕ)
+        → Extends more (scanPort attach below p port)
     unfolding scanPort
     scan-port below scans p port = search (Steps, check-connection) depth 20
 
@@ -158,7 +159,8 @@ take-write (suc n) (x ∷ s) vs = ap (λ (l : List ℕ). x ∷ l) (take-write n 
 
 module _ (lent : Lent) where
   -- a call that ends in v, and its repeat, which ends in v′
-  goes-on : (v v′ : World) {answer answer′ : ℤ} → Grows (start lent) v → Grows v v′ → (answer ≢ haltNumber OutcomesSpent → leaves answer′ v′ ≡ leaves answer v) → Repeated lent (leaves answer v) (leaves answer′ v′)
+  goes-on : (v v′ : World) {answer answer′ : ℤ} → Grows (start lent) v → Grows v v′
+      → (answer ≢ haltNumber OutcomesSpent → leaves answer′ v′ ≡ leaves answer v) → Repeated lent (leaves answer v) (leaves answer′ v′)
   goes-on v v′ g h e =
       let o = g .onward in
       let p = h .onward in
@@ -176,11 +178,14 @@ module _ (lent : Lent) where
         later-length = p .news-length;
         log′ = log′;
         requests′ = p .requests;
-        room = omega (arith, h .fits (g .fits (omega arith)), p .logged, simp length-write at (ap length (o .log)), simp length-write at (ap length log′));
+        room =
+            omega
+            (arith, h .fits (g .fits (omega arith)), p .logged, simp length-write at (ap length (o .log)), simp length-write at (ap length log′));
         agree = rw log′ (take-write (16 * o .actions) (v .log) (p .news));
       }
 
-  answers : {more : List ℕ} {r r′ : Ran World (Unit {0})} → Grows (start lent) (endOf r) → Repeats more r r′ → Repeated lent (answered r) (answered r′)
+  answers : {more : List ℕ} {r r′ : Ran World (Unit {0})} → Grows (start lent) (endOf r) → Repeats more r r′
+      → Repeated lent (answered r) (answered r′)
   answers g (same {r = done a v}) = goes-on v v g still (λ _. refl)
   answers g (same {r = fail e v}) = goes-on v v g still (λ _. refl)
   answers g (same {r = halt h v}) = goes-on v v g still (λ _. refl)
@@ -191,7 +196,8 @@ module _ (lent : Lent) where
   -- ---- the entry points
 
   module _ (more : List ℕ) where
-    calls : (verdict : Verdict) (m : M (Unit {0})) → Extends more m → Repeated lent (call lent verdict m) (call (withMore more lent) verdict m)
+    calls : (verdict : Verdict) (m : M (Unit {0})) → Extends more m
+        → Repeated lent (call lent verdict m) (call (withMore more lent) verdict m)
     unfolding call
     calls accepted m h = answers (h .grows (start lent)) (h .repeats (start lent))
     calls (refused r) m h =
@@ -216,12 +222,15 @@ module _ (lent : Lent) where
 
     pub child-check-repeated : (hub child : ℕ) → Repeated lent (childCheck hub child lent) (childCheck hub child (withMore more lent))
     unfolding childCheck hubVerdict
-    child-check-repeated hub child = calls (hubVerdict lent hub (isUnused lent child)) _ (check-device attachNew (attach-below 32) hub child)
+    child-check-repeated hub child =
+        calls (hubVerdict lent hub (isUnused lent child)) _ (check-device attachNew (attach-below 32) hub child)
 
     pub retried-reset-repeated : (hub port : ℕ) → Repeated lent (retriedReset hub port lent) (retriedReset hub port (withMore more lent))
     unfolding retriedReset hubVerdict
     retried-reset-repeated hub port = calls (hubVerdict lent hub (noPort port)) _ (reset hub port)
 
-    pub connection-change-repeated : (hub port : ℕ) → Repeated lent (connectionChange hub port lent) (connectionChange hub port (withMore more lent))
+    pub connection-change-repeated : (hub port : ℕ)
+        → Repeated lent (connectionChange hub port lent) (connectionChange hub port (withMore more lent))
     unfolding connectionChange hubVerdict
-    connection-change-repeated hub port = calls (hubVerdict lent hub (noPort port)) _ (connection-changed attachNew (attach-below 32) hub port)
+    connection-change-repeated hub port =
+        calls (hubVerdict lent hub (noPort port)) _ (connection-changed attachNew (attach-below 32) hub port)

@@ -41,14 +41,19 @@ module _ {h₀ : List Event} (s₀ : State h₀) (hub port : ℕ) (inside : hub 
 
   -- one event more, which is calm
   added : {P : State h₀ → Type 0} {e : Event} {t : State h₀} → ((s : State h₀) → P s → Since s) → Calm e → Added P e t → Since t
-  added f c a = later (f (a .before) (a .pre)) (record { keep = λ q g k. ap (λ (l : List ℕ). byteAt l q g) (a .same); past = adds-one c (a .past) })
+  added f c a =
+      later (f (a .before) (a .pre)) (record { keep = λ q g k. ap (λ (l : List ℕ). byteAt l q g) (a .same); past = adds-one c (a .past) })
 
-  answered : {P : State h₀ → Type 0} (q : UsbDeviceRequest) (b : Buffer) {o : Outcome} {t : State h₀} → ((s : State h₀) → P s → Since s) → Calm (asked (hub + 1) q o) → Answered Keys hub q b P (hub + 1) o t → Since t
+  answered : {P : State h₀ → Type 0} (q : UsbDeviceRequest) (b : Buffer) {o : Outcome} {t : State h₀} → ((s : State h₀) → P s → Since s)
+      → Calm (asked (hub + 1) q o) → Answered Keys hub q b P (hub + 1) o t → Since t
   answered q b f c a = later (f (a .before) (a .pre)) (record { keep = a .keep; past = adds-one c (a .past) })
 
   -- a request to the hub: acknowledged, or failed in a state that came calmly
-  tell : {P : State h₀ → Type 0} (q : UsbDeviceRequest) (b : Buffer) → Sendable Keys hub q b → ((s : State h₀) → P s → Since s) → ((o : Outcome) → Calm (asked (hub + 1) q o)) → Does P (control hub q b) (Acknowledged Keys hub q b P (hub + 1)) Since
-  tell q b send f c = does-map (λ s p. p) (λ _ t x. x) (λ t x. answered q b f (c (x .outcome)) (x .answered)) (control-does Keys hub q b send (hub + 1) (λ s p. f s p .keep hub Number number ∙ own))
+  tell : {P : State h₀ → Type 0} (q : UsbDeviceRequest) (b : Buffer) → Sendable Keys hub q b → ((s : State h₀) → P s → Since s)
+      → ((o : Outcome) → Calm (asked (hub + 1) q o)) → Does P (control hub q b) (Acknowledged Keys hub q b P (hub + 1)) Since
+  tell q b send f c =
+      does-map (λ s p. p) (λ _ t x. x) (λ t x. answered q b f (c (x .outcome)) (x .answered))
+      (control-does Keys hub q b send (hub + 1) (λ s p. f s p .keep hub Number number ∙ own))
 
   -- ---- on its way
 
@@ -84,15 +89,19 @@ module _ {h₀ : List Event} (s₀ : State h₀) (hub port : ℕ) (inside : hub 
   see : (reads : ℕ) → Does (Ticked reads) (hubPortGetStatus hub port) (λ _. Seen reads) Since
   unfolding hubPortGetStatus read
   see reads = does-next
-      (does-bind (tell (statusOf port) (into (PortStatus port) 4) (port-sendable hub port low) (λ s p. p .since₁) (λ o. still-port-status port (hub + 1) o .calm)) λ bytes.
+      (does-bind (tell (statusOf port) (into (PortStatus port) 4) (port-sendable hub port low) (λ s p. p .since₁)
+      (λ o. still-port-status port (hub + 1) o .calm)) λ bytes.
       does-next (does-unless _ _ (λ s a. came (a .answered)))
       (does-return bytes (λ t a. whole bytes t (a .0) (ltb-false (length bytes) 4 (a .1)))))
       does-skip
     where
-      came : {o : Outcome} {t : State h₀} → Answered Keys hub (statusOf port) (into (PortStatus port) 4) (Ticked reads) (hub + 1) o t → Since t
+      came : {o : Outcome} {t : State h₀} → Answered Keys hub (statusOf port) (into (PortStatus port) 4) (Ticked reads) (hub + 1) o t
+          → Since t
       came {o} a = answered (statusOf port) (into (PortStatus port) 4) (λ s p. p .since₁) (still-port-status port (hub + 1) o .calm) a
 
-      whole : (bytes : List ℕ) (t : State h₀) → Acknowledged Keys hub (statusOf port) (into (PortStatus port) 4) (Ticked reads) (hub + 1) bytes t → 4 ≤ length bytes → Seen reads t
+      whole : (bytes : List ℕ) (t : State h₀)
+          → Acknowledged Keys hub (statusOf port) (into (PortStatus port) 4) (Ticked reads) (hub + 1) bytes t → 4 ≤ length bytes
+          → Seen reads t
       whole bytes t a l =
           let x = a .answered in
           let long : length (a .outcome .delivered) ≡ 4 = omega (arith, l, ap length (a .is), x .short, status-length port) in
@@ -130,7 +139,10 @@ module _ {h₀ : List Event} (s₀ : State h₀) (hub port : ℕ) (inside : hub 
   await (suc n) reads e =
       does-next (tick reads) (does-next (see reads) (does-bind (does-look _) λ status.
       does-if (bit C-PORT-RESET status)
-      (λ x. does-return true (λ t y. record { since₃ = y .0 .since₂; shown = λ _. record { reads = reads; few = omega arith; seen = y .0; shows = ap (bit C-PORT-RESET) (sym (y .1 ∙ y .0 .holds)) ∙ x } }))
+      (λ x. does-return true (λ t y. record {
+        since₃ = y .0 .since₂;
+        shown = λ _. record { reads = reads; few = omega arith; seen = y .0; shows = ap (bit C-PORT-RESET) (sym (y .1 ∙ y .0 .holds)) ∙ x };
+      }))
       (λ x. does-pre (λ t y. once-more reads t (y .0)) (await n (suc reads) (omega arith)))))
 
   begin : Does Since (setPortFeature hub PORT-RESET port) (λ _. Begun 0) Since
@@ -140,7 +152,8 @@ module _ {h₀ : List Event} (s₀ : State h₀) (hub port : ℕ) (inside : hub 
         since₀ = answered (resetOf port) nowhere (λ s p. p) (calm-reset port (hub + 1) (a .outcome)) (a .answered);
         awaited = subst (Awaited (hub + 1) port 0) (sym (a .answered .past)) (sent (a .good));
       }) (λ s n. n)
-      (tell (resetOf port) nowhere (sends-none head-keys ToPort SetFeature PORT-RESET (port + 1) (omega arith) (omega arith) (omega arith) (omega arith) 0 (omega arith)) (λ s p. p) (calm-reset port (hub + 1))))
+      (tell (resetOf port) nowhere (sends-none head-keys ToPort SetFeature PORT-RESET (port + 1) (omega arith) (omega arith) (omega arith)
+      (omega arith) 0 (omega arith)) (λ s p. p) (calm-reset port (hub + 1))))
       does-skip
 
   record Over (b : Bool) (t : State h₀) : Type 0 where
@@ -151,13 +164,16 @@ module _ {h₀ : List Event} (s₀ : State h₀) (hub port : ℕ) (inside : hub 
   unfolding hubChangePortFeature
   finish b = does-next
       (does-map (λ s p. p) (λ _ t a. record {
-        since₄ = answered (clearOf port) nowhere (λ s p. p .since₃) (still-clear C-PORT-RESET port (hub + 1) (a .outcome) .calm) (a .answered);
+        since₄ =
+            answered (clearOf port) nowhere (λ s p. p .since₃) (still-clear C-PORT-RESET port (hub + 1) (a .outcome) .calm) (a .answered);
         over = λ x. ended t a (a .answered .pre .shown x);
       }) (λ s n. n)
-      (tell (clearOf port) nowhere (sends-none head-keys ToPort ClearFeature C-PORT-RESET (port + 1) (omega arith) (omega arith) (omega arith) (omega arith) 0 (omega arith)) (λ s p. p .since₃) (λ o. still-clear C-PORT-RESET port (hub + 1) o .calm)))
+      (tell (clearOf port) nowhere (sends-none head-keys ToPort ClearFeature C-PORT-RESET (port + 1) (omega arith) (omega arith)
+      (omega arith) (omega arith) 0 (omega arith)) (λ s p. p .since₃) (λ o. still-clear C-PORT-RESET port (hub + 1) o .calm)))
       does-skip
     where
-      ended : {bytes : List ℕ} (t : State h₀) (a : Acknowledged Keys hub (clearOf port) nowhere (Read b) (hub + 1) bytes t) → Shown (a .answered .before) → EndedWell (hub + 1) port (t .past)
+      ended : {bytes : List ℕ} (t : State h₀) (a : Acknowledged Keys hub (clearOf port) nowhere (Read b) (hub + 1) bytes t)
+          → Shown (a .answered .before) → EndedWell (hub + 1) port (t .past)
       ended t a x =
           let y = x .seen in
           subst (EndedWell (hub + 1) port) (sym (a .answered .past ∙ ap (λ (r : List Event). asked (hub + 1) (clearOf port) (a .outcome) ∷ r) (y .past)))
@@ -170,11 +186,17 @@ module _ {h₀ : List Event} (s₀ : State h₀) (hub port : ℕ) (inside : hub 
   pub reset2-does : Does (Calmly s₀) (hubPortReset2 hub port) (λ _. HasReset) (Calmly s₀)
   unfolding hubPortReset2
   reset2-does =
-      does-next (does-ignore (does-map (λ s p. p) (λ _ t x. x .0) (λ t x. x) (does-keep Since (clear-still hub C-PORT-RESET port (omega arith) low) (λ s t p r. later p (record { keep = r .keep; past = adds-map (λ e x. x .calm) (r .past) })) (λ t x. x)))) (
+      does-next (does-ignore (does-map (λ s p. p) (λ _ t x. x .0) (λ t x. x)
+      (does-keep Since (clear-still hub C-PORT-RESET port (omega arith) low) (λ s t p r. later p (record {
+        keep = r .keep;
+        past = adds-map (λ e x. x .calm) (r .past);
+      })) (λ t x. x)))) (
       does-next begin (does-bind (await _ 0 (omega arith)) λ seen.
       does-next (finish seen) (
       does-next (does-unless (not seen) _ (λ t x. x .since₄))
       (does-map (λ s p. p) (λ _ t a. record {
         calmly = added (λ s p. p .0 .since₄) (still-wait 10000 .calm) a;
-        reset = subst (NoResetSince (EndedWell (hub + 1) port)) (sym (a .past)) (since (still-reset 10000) (just (a .pre .0 .over (not-false seen (a .pre .1)))));
+        reset =
+            subst (NoResetSince (EndedWell (hub + 1) port)) (sym (a .past))
+            (since (still-reset 10000) (just (a .pre .0 .over (not-false seen (a .pre .1)))));
       }) (λ s n. n) (wait-adds {N = Since} 10000 (omega arith))))))

@@ -52,14 +52,16 @@ unfolding each
 eachs zero from h = skips
 eachs (suc n) from h = next (h from) (eachs n (from + 1) h)
 
-scan-port : (attach below : ℕ → M (Unit {0})) → ((place : ℕ) → Succeeds (below place)) → (hub port : ℕ) → Succeeds (scanPort attach below hub port)
+scan-port : (attach below : ℕ → M (Unit {0})) → ((place : ℕ) → Succeeds (below place)) → (hub port : ℕ)
+    → Succeeds (scanPort attach below hub port)
 unfolding scanPort
 scan-port attach below h hub port = bind (attempts _) λ result. bind (gets hub _) λ child. bind (gets _ _) λ data′. whens _ (h _)
 
 scan-succeeds : (attach : ℕ → M (Unit {0})) (above hub : ℕ) → Succeeds (hubCheckForChange attach above hub)
 unfolding hubCheckForChange
 scan-succeeds attach zero hub = skips
-scan-succeeds attach (suc above) hub = bind (gets hub _) λ count. eachs count 0 (λ port. scan-port attach (hubCheckForChange attach above) (scan-succeeds attach above) hub port)
+scan-succeeds attach (suc above) hub = bind (gets hub _) λ count. eachs count 0
+    (λ port. scan-port attach (hubCheckForChange attach above) (scan-succeeds attach above) hub port)
 
 pub scan-ends : (attach : ℕ → M (Unit {0})) (above hub : ℕ) (w : World) → Ended (hubCheckForChange attach above hub w)
 scan-ends attach above hub w = scan-succeeds attach above hub .run w

@@ -18,7 +18,7 @@ use Rattle.usb_model.specs.World.{World, M, withStore, get, put, putByte
 use Rattle.usb_model.specs.Features.{PORT-CONNECTION, PORT-ENABLE, bit}
 use Rattle.usb_model.specs.Transfer.{into}
 use Rattle.usb_model.specs.Usbd.{usbAllocateDevice}
-use Rattle.usb_model.specs.Hub.{hubReadDescriptor, hubChangePortFeature, hubPortConnectionChanged, hubCheckConnection, hubCheckConnectionDevice, hubAttach, isOk, scanPort, hubCheckForChange}
+use Rattle.usb_model.specs.Hub.{hubReadDescriptor, hubPortConnectionChanged, hubCheckConnection, hubCheckConnectionDevice, hubAttach, isOk, scanPort, hubCheckForChange}
 use Rattle.usb_model.specs.Attach.{usbAttachDevice, attachBelow}
 use Rattle.usb_model.proofs.Ways.{Allocates, bus-full, allocated, allocate-ends}
 use Rattle.usb_model.proofs.Functions.{middle}
@@ -40,7 +40,8 @@ pub grown : {t : List ℕ} (w : World) → Held true t w → Held false t w
 grown w h = record { sound = h .sound; since = since-grown (h .since) }
 
 -- from a store further on
-pub moved : {A : Type 0} {Q : A → Type 0} {s t : List ℕ} {r : Ran World A} → Since false s t → Left (Held false t) Q r → Left (Held false s) Q r
+pub moved : {A : Type 0} {Q : A → Type 0} {s t : List ℕ} {r : Ran World A} → Since false s t → Left (Held false t) Q r
+    → Left (Held false s) Q r
 moved o = left-weaker (λ w h. record { sound = h .sound; since = since-join o (h .since) })
 
 pub here : {b : Bool} (w : World) → Sound (w .store) → Held b (w .store) w
@@ -48,14 +49,16 @@ here w r = record { sound = r; since = since-same }
 
 -- a byte is read, and what follows is told of the store as it is there
 reads-at : {A : Type 0} {Q : A → Type 0} {b c : Bool} {s : List ℕ} (p f : ℕ) {k : ℕ → M A}
-    → ((t : List ℕ) → Sound t → Since b s t → (v : ℕ) → byteAt t p f ≡ v → Safe (Held c t) (Held false t) (k v) Q) → Safe (Held b s) (Held false s) (get p f >>= k) Q
+    → ((t : List ℕ) → Sound t → Since b s t → (v : ℕ) → byteAt t p f ≡ v → Safe (Held c t) (Held false t) (k v) Q)
+    → Safe (Held b s) (Held false s) (get p f >>= k) Q
 unfolding get look _>>=_
 reads-at p f h = record { run = λ w i. moved (since-grown (i .since)) (h (w .store) (i .sound) (i .since) _ refl .run w (here w (i .sound))) }
 
 -- ---- the hub byte
 
 -- it was written, and m follows
-hub-written : {A : Type 0} {Q : A → Type 0} {m : M A} {b : Bool} {s : List ℕ} {w : World} {p : ℕ} → Held b s w → At (w .store) p 0 → (v : ℕ) → byteAt (w .store) p Hub ≤ v → v < 3
+hub-written : {A : Type 0} {Q : A → Type 0} {m : M A} {b : Bool} {s : List ℕ} {w : World} {p : ℕ} → Held b s w → At (w .store) p 0 → (v : ℕ)
+    → byteAt (w .store) p Hub ≤ v → v < 3
     → ((t : List ℕ) → At t p v → Keeps (Held false t) m Q) → Left (Held false s) Q (m (withStore (withByte (w .store) p Hub v) w))
 hub-written {w} {p} i u v grows most h =
     let d = hub-edit (i .sound) u v grows most in
@@ -79,7 +82,8 @@ module _ {A : Type 0} {Q : A → Type 0} {k : M A} where
   unfolding get look _>>=_ _>>_ when put change skip
   describes {s} {p} u h = record { run = λ w i. go w i (later (i .since) u) (eqb (byteAt (w .store) p Hub) 1) refl }
     where
-      go : (w : World) → Held false s w → At (w .store) p 1 → (b : Bool) → eqb (byteAt (w .store) p Hub) 1 ≡ b → Left (Held false s) Q (on (cond b (put p Hub 2 >> putBytes p HubDescriptor (blank 9)) skip w) (λ _. k))
+      go : (w : World) → Held false s w → At (w .store) p 1 → (b : Bool) → eqb (byteAt (w .store) p Hub) 1 ≡ b
+          → Left (Held false s) Q (on (cond b (put p Hub 2 >> putBytes p HubDescriptor (blank 9)) skip w) (λ _. k))
       go w i a true e =
           hub-written i (some-place a) 2 (omega (arith, eqb-true (byteAt (w .store) p Hub) 1 e)) (omega arith) λ t v.
           next (puts-bytes v HubDescriptor (blank 9) (omega arith) (λ h j l m. omega arith) (inr (omega arith))) (h t v)
@@ -92,13 +96,15 @@ descriptor-fits = record { room = omega arith; clear = inr (omega arith); may = 
 
 pub read-hub-descriptor : {s : List ℕ} {p : ℕ} → At s p 1 → Keeps (Held false s) (hubReadDescriptor p) Any
 unfolding hubReadDescriptor
-read-hub-descriptor u = bind (descriptors u _ _ _ _ _ none) λ header _. describes u λ t v. next (descriptors v _ _ _ _ _ descriptor-fits) skips
+read-hub-descriptor u =
+    bind (descriptors u _ _ _ _ _ none) λ header _. describes u λ t v. next (descriptors v _ _ _ _ _ descriptor-fits) skips
 
 -- ---- a place is taken
 
 -- the first unused place, if there is one
 pub allocates : {P P′ : World → Type 0} {A : Type 0} {Q : A → Type 0} → ((w : World) → P w → P′ w) → (k : ℕ → M A)
-    → ((w : World) → P w → (p : ℕ) → p ≡ firstUnused (w .store) → p < 32 → Left P′ Q (k p (withStore (withBytes (w .store) p 0 (newDevice p)) w))) → Safe P P′ (usbAllocateDevice >>= k) Q
+    → ((w : World) → P w → (p : ℕ) → p ≡ firstUnused (w .store) → p < 32 → Left P′ Q (k p (withStore (withBytes (w .store) p 0 (newDevice p)) w)))
+    → Safe P P′ (usbAllocateDevice >>= k) Q
 unfolding _>>=_
 allocates {P} {P′} {Q} weaker k h = record { run = λ w i. go w i (allocate-ends w) }
   where
@@ -107,18 +113,22 @@ allocates {P} {P′} {Q} weaker k h = record { run = λ w i. go w i (allocate-en
     go w i (allocated {p} e inside) = h w i p e inside
 
 -- for a child at a port that has none: the place and the hub's byte are written as one step
-allocates-child : {A : Type 0} {Q : A → Type 0} {k : ℕ → M A} {t : List ℕ} {hub port : ℕ} → At t hub 1 → port < 10 → byteAt t hub (Child port) ≡ 0
-    → ((place : ℕ) (u : List ℕ) → Fresh u place → At u hub 1 → IsChild u hub port place → Grows u (k place) Q) → Grows t (usbAllocateDevice >>= (λ place. put hub (Child port) (place + 1) >> k place)) Q
+allocates-child : {A : Type 0} {Q : A → Type 0} {k : ℕ → M A} {t : List ℕ} {hub port : ℕ} → At t hub 1 → port < 10
+    → byteAt t hub (Child port) ≡ 0
+    → ((place : ℕ) (u : List ℕ) → Fresh u place → At u hub 1 → IsChild u hub port place → Grows u (k place) Q)
+    → Grows t (usbAllocateDevice >>= (λ place. put hub (Child port) (place + 1) >> k place)) Q
 unfolding put change _>>_
 allocates-child {t} {hub} {port} u l vacant h = allocates grown _ λ w i p e inside.
     let a = later (i .since) u in
     let free = i .since .child-same refl hub port l ∙ vacant in
     let o = child-since (i .sound) e inside a port l free in
     moved (since-join (since-grown (i .since)) o)
-    (h p _ (child-fresh (i .sound) e inside a port l free) (later o a) (child-stands (i .sound) e inside a port l free) .run _ (here _ (child-sound (i .sound) e inside a port l free)))
+    (h p _ (child-fresh (i .sound) e inside a port l free) (later o a) (child-stands (i .sound) e inside a port l free) .run _
+    (here _ (child-sound (i .sound) e inside a port l free)))
 
 -- the parent and the port are written as one step
-parents : {A : Type 0} {Q : A → Type 0} {k : M A} {t : List ℕ} {p hub port : ℕ} → At t p 0 → hub < 32 → port < 10 → IsChild t hub port p → Grows t k Q
+parents : {A : Type 0} {Q : A → Type 0} {k : M A} {t : List ℕ} {p hub port : ℕ} → At t p 0 → hub < 32 → port < 10 → IsChild t hub port p
+    → Grows t k Q
     → Grows t (put p Parent (hub + 1) >> (put p PortNumber port >> k)) Q
 unfolding put change _>>_
 parents {hub} {port} u inside l child h = record {
@@ -134,14 +144,11 @@ no-child false child e = eqb-true child 0 (not-false _ e)
 
 module _ (attach : ℕ → M (Unit {0})) (attaches : (place : ℕ) (t : List ℕ) → Fresh t place → Grows t (attach place) Any) where
   module _ {s : List ℕ} {hub : ℕ} (u : At s hub 1) where
-    features : (feature port : ℕ) (set : Bool) → Keeps (Held false s) (hubChangePortFeature hub feature port set) Any
-    features = change-feature (some-place u)
-
     pub connection-changed : (port : ℕ) → port < 10 → Keeps (Held false s) (hubPortConnectionChanged attach hub port) Any
     unfolding hubPortConnectionChanged
     connection-changed port l =
-        next frames (next (port-get-status u port l) (next (features _ port _) (next (port-get-status u port l) (
-        bind (port-status (some-place u) port) λ status _.
+        next frames (next (port-get-status u port l) (next (change-feature u _ port _) (next (port-get-status u port l) (
+        bind (port-status hub port) λ status _.
         reads-at hub (Child port) λ t r o child e.
         let gone = not (bit PORT-CONNECTION status) && not (bit PORT-ENABLE status) in
         let a = later o u in
@@ -149,21 +156,21 @@ module _ (attach : ℕ → M (Unit {0})) (attaches : (place : ℕ) (t : List ℕ
         next-to grown (waits _) (next-to grown (reset2 a port l) (
         allocates-child a l (e ∙ no-child gone child passed) λ place v fresh h stands.
         next-to grown (port-get-status h port l) (
-        bind-to grown (port-status (some-place h) port) λ after _.
+        bind-to grown (port-status hub port) λ after _.
         next-to grown (puts (fresh .place) Speed _ (λ i m. omega (arith, speed-listed after)) (inl (omega arith))) (
         parents (fresh .place) (h .inside) l stands (attaches place v fresh)))))))))
 
     pub check-connection : (port : ℕ) → port < 10 → Keeps (Held false s) (hubCheckConnection attach hub port) Any
     unfolding hubCheckConnection
     check-connection port l =
-        bind (port-status (some-place u) port) λ before _.
+        bind (port-status hub port) λ before _.
         next (port-get-status u port l) (
-        bind (port-status (some-place u) port) λ status _.
+        bind (port-status hub port) λ status _.
         bind (gets hub Number) λ number _.
-        next (whens _ (next (ignores (features _ port _)) (ignores (power-on (some-place u))))) (
-        next (whens _ (next (ignores (features _ port _)) (bind (gets hub (Child port)) λ child _. whens _ (ignores (connection-changed port l))))) (
+        next (whens _ (next (ignores (change-feature u _ port _)) (ignores (power-on u)))) (
+        next (whens _ (next (ignores (change-feature u _ port _)) (bind (gets hub (Child port)) λ child _. whens _ (ignores (connection-changed port l))))) (
         next (whens _ (ignores (connection-changed port l))) (
-        next (whens _ (features _ port _)) (whens _ (features _ port _))))))
+        next (whens _ (change-feature u _ port _)) (whens _ (change-feature u _ port _))))))
 
     pub check-device : (child : ℕ) → Keeps (Held false s) (hubCheckConnectionDevice attach hub child) Any
     unfolding hubCheckConnectionDevice
@@ -183,7 +190,7 @@ module _ (attach : ℕ → M (Unit {0})) (attaches : (place : ℕ) (t : List ℕ
       becomes-hub fresh λ v u.
       next (puts-most u 1 (omega arith)) (next (read-hub-descriptor u) (
       bind (gets hub _) λ ports _.
-      next (puts-most u (min ports 10) (omega arith)) (next (get-status u) (next (power-on (some-place u)) (next (get-status u) (
+      next (puts-most u (min ports 10) (omega arith)) (next (get-status u) (next (power-on u) (next (get-status u) (
       bind (gets-most u) λ children most.
       eachs children 0 (λ port l. ignores (check-connection u port (omega (arith, most)))))))))))))
 
@@ -207,14 +214,16 @@ attaches (suc free) place t fresh = attach-device (attachBelow free) (attaches f
 
 -- ---- scan
 
-child-at : {s : List ℕ} {hub port child : ℕ} → Sound s → hub < 32 → port < 10 → byteAt s hub (Child port) ≡ child → child ≢ 0 → At s (child - 1) 0
+child-at : {s : List ℕ} {hub port child : ℕ} → Sound s → hub < 32 → port < 10 → byteAt s hub (Child port) ≡ child → child ≢ 0
+    → At s (child - 1) 0
 child-at {s} {hub} {port} {child} r inside l e n =
     let b = child-below s r hub port inside l (λ z. n (sym e ∙ z)) in
     let i : byteAt s hub (Child port) - 1 ≡ child - 1 = ap (λ (v : ℕ). v - 1) e in
     record { inside = omega (arith, b .inside, i); used = omega (arith, b .used, ap (λ (v : ℕ). byteAt s v Used) i); hub = omega arith }
 
 module _ (free : ℕ) where
-  scan-port : {below : ℕ → M (Unit {0})} {s : List ℕ} {hub : ℕ} (port : ℕ) → At s hub 1 → port < 10 → ((place : ℕ) (t : List ℕ) → At t place 1 → Keeps (Held false t) (below place) Any)
+  scan-port : {below : ℕ → M (Unit {0})} {s : List ℕ} {hub : ℕ} (port : ℕ) → At s hub 1 → port < 10
+      → ((place : ℕ) (t : List ℕ) → At t place 1 → Keeps (Held false t) (below place) Any)
       → Keeps (Held false s) (scanPort (attachBelow free) below hub port) Any
   unfolding scanPort
   scan-port {hub} port u l scans =
@@ -227,7 +236,8 @@ module _ (free : ℕ) where
       let a = later p (child-at r (u .inside) l c some) in
       scans (child - 1) v (record { inside = a .inside; used = a .used; hub = omega (arith, d, hubs) })
 
-  pub check-for-change : (above : ℕ) {s : List ℕ} {hub : ℕ} → At s hub 1 → Keeps (Held false s) (hubCheckForChange (attachBelow free) above hub) Any
+  pub check-for-change : (above : ℕ) {s : List ℕ} {hub : ℕ} → At s hub 1
+      → Keeps (Held false s) (hubCheckForChange (attachBelow free) above hub) Any
   unfolding hubCheckForChange
   check-for-change zero u = skips
   check-for-change (suc above) u =

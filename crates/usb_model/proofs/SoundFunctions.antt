@@ -33,8 +33,13 @@ low-fits field size low high = record { room = omega arith; clear = inr (omega a
 status-fits : (field : ℕ) → 52 ≤ field → field + 4 ≤ 96 → Fits 1 (into field 4)
 status-fits field low high = record { room = omega arith; clear = inr (omega arith); may = λ c h p g v a b d. omega arith }
 
+pub port-status : {b : Bool} {s : List ℕ} (p port : ℕ) → Keeps (Held b s) (portStatus p port) Any
+unfolding portStatus
+port-status p port = gets-number p _ 4
+
 module _ {b : Bool} {s : List ℕ} {p : ℕ} where
-  pub descriptors : {k : ℕ} → At s p k → (recipient type index size minimum : ℕ) {c : Buffer} → Fits k c → Keeps (Held b s) (usbGetDescriptor p recipient type index size minimum c) Any
+  pub descriptors : {k : ℕ} → At s p k → (recipient type index size minimum : ℕ) {c : Buffer} → Fits k c
+      → Keeps (Held b s) (usbGetDescriptor p recipient type index size minimum c) Any
   unfolding usbGetDescriptor
   descriptors u recipient type index size minimum fits = reads u fits _ minimum
 
@@ -43,7 +48,8 @@ module _ {b : Bool} {s : List ℕ} {p : ℕ} where
   module _ (u : At s p 0) where
     device-descriptor : (minimum : ℕ) → Keeps (Held b s) (readDeviceDescriptor p minimum) Any
     unfolding readDeviceDescriptor
-    device-descriptor minimum = bind (descriptors u _ _ _ _ _ (low-fits DeviceDescriptor 18 (omega arith) (omega arith))) λ bytes _. gives _ tt
+    device-descriptor minimum =
+        bind (descriptors u _ _ _ _ _ (low-fits DeviceDescriptor 18 (omega arith) (omega arith))) λ bytes _. gives _ tt
 
     pub read-device-descriptor : Keeps (Held b s) (usbReadDeviceDescriptor p) Any
     unfolding usbReadDeviceDescriptor
@@ -56,7 +62,9 @@ module _ {b : Bool} {s : List ℕ} {p : ℕ} where
 
     -- the number is the place's own, or 0
     pub puts-own : (v : ℕ) → OneOf v (0 ∷ (p + 1) ∷ []) → Keeps (Held b s) (put p Number v) Any
-    puts-own v = ⊎-elim (λ e. puts u Number v (λ h l. omega arith) (inl (omega arith))) (⊎-elim (λ e. puts u Number v (λ h l. omega arith) (inl (omega arith))) (λ e. absurd e))
+    puts-own v =
+        ⊎-elim (λ e. puts u Number v (λ h l. omega arith) (inl (omega arith)))
+        (⊎-elim (λ e. puts u Number v (λ h l. omega arith) (inl (omega arith))) (λ e. absurd e))
 
     pub puts-status : (v : ℕ) → v < 5 → Keeps (Held b s) (put p Status v) Any
     puts-status v l = puts u Status v (λ h m. omega arith) (inl (omega arith))
@@ -91,23 +99,20 @@ module _ {b : Bool} {s : List ℕ} {p : ℕ} where
         next (succeeds _) (
         bind (gets p _) λ value _. set-configure value)))))
 
-    -- ---- device/hub.rs
+  -- ---- device/hub.rs
 
-    pub change-feature : (feature port : ℕ) (set : Bool) → Keeps (Held b s) (hubChangePortFeature p feature port set) Any
-    unfolding hubChangePortFeature
-    change-feature feature port set = next (controls u none _) skips
+  pub change-feature : {k : ℕ} → At s p k → (feature port : ℕ) (set : Bool) → Keeps (Held b s) (hubChangePortFeature p feature port set) Any
+  unfolding hubChangePortFeature
+  change-feature u feature port set = next (controls u none _) skips
 
-    pub power-on : Keeps (Held b s) (hubPowerOn p) Any
-    unfolding hubPowerOn
-    power-on =
-        bind (gets p Hub) λ data′ _.
-        whens _ (bind (gets p _) λ count _. bind (gets p _) λ delay _.
-        next (eachs _ _ (λ port _. ignores (change-feature _ port true))) (waits _))
+  pub power-on : {k : ℕ} → At s p k → Keeps (Held b s) (hubPowerOn p) Any
+  unfolding hubPowerOn
+  power-on u =
+      bind (gets p Hub) λ data′ _.
+      whens _ (bind (gets p _) λ count _. bind (gets p _) λ delay _.
+      next (eachs _ _ (λ port _. ignores (change-feature u _ port true))) (waits _))
 
-    pub port-status : (port : ℕ) → Keeps (Held b s) (portStatus p port) Any
-    unfolding portStatus
-    port-status port = gets-number p _ 4
-
+  module _ (u : At s p 0) where
     pub port-of-child : (child : ℕ) → Keeps (Held b s) (portOfChild p child) (λ port. port < 10)
     unfolding portOfChild
     port-of-child child =
@@ -127,44 +132,38 @@ module _ {b : Bool} {s : List ℕ} {p : ℕ} where
     unfolding hubPortGetStatus
     port-get-status port h = next (reads u (status-fits (PortStatus port) (omega arith) (omega arith)) _ 4) skips
 
-    feature : (feature port : ℕ) (set : Bool) → Keeps (Held b s) (hubChangePortFeature p feature port set) Any
-    feature = change-feature (some-place u)
-
-    status : (port : ℕ) → Keeps (Held b s) (portStatus p port) Any
-    status = port-status (some-place u)
-
     await-reset : (reads port : ℕ) → port < 10 → Keeps (Held b s) (awaitReset reads p port) Any
     unfolding awaitReset
     await-reset zero port h = gives false tt
     await-reset (suc reads) port h =
-        next (waits _) (next (port-get-status port h) (bind (status port) λ now _.
+        next (waits _) (next (port-get-status port h) (bind (port-status p port) λ now _.
         either (bit C-PORT-RESET now) (gives true tt) (await-reset reads port h)))
 
     pub reset2 : (port : ℕ) → port < 10 → Keeps (Held b s) (hubPortReset2 p port) Any
     unfolding hubPortReset2
     reset2 port h =
-        next (ignores (feature _ port false)) (next (feature _ port true) (
+        next (ignores (change-feature u _ port false)) (next (change-feature u _ port true) (
         bind (await-reset _ port h) λ seen _.
-        next (feature _ port false) (next (whens _ (throws _)) (waits _))))
+        next (change-feature u _ port false) (next (whens _ (throws _)) (waits _))))
 
     await-enabled : (reads port : ℕ) → port < 10 → Keeps (Held b s) (awaitEnabled reads p port) Any
     unfolding awaitEnabled
     await-enabled zero port h = gives false tt
     await-enabled (suc reads) port h =
-        next (waits _) (next (port-get-status port h) (bind (status port) λ now _.
+        next (waits _) (next (port-get-status port h) (bind (port-status p port) λ now _.
         either (bit C-PORT-RESET now || bit PORT-ENABLE now) (gives _ tt) (await-enabled reads port h)))
 
     tries : (count port : ℕ) → port < 10 → Keeps (Held b s) (resetTries count p port) Any
     unfolding resetTries
     tries zero port h = skips
     tries (suc count) port h =
-        next (feature _ port true) (bind (await-enabled _ port h) λ seen _.
-        bind (status port) λ now _.
+        next (change-feature u _ port true) (bind (await-enabled _ port h) λ seen _.
+        bind (port-status p port) λ now _.
         next (whens _ (throws _)) (either (seen && bit PORT-ENABLE now) skips (tries count port h)))
 
     pub reset : (port : ℕ) → port < 10 → Keeps (Held b s) (hubPortReset p port) Any
     unfolding hubPortReset
-    reset port h = next (tries 3 port h) (next (ignores (feature _ port false)) (ignores (feature _ port false)))
+    reset port h = next (tries 3 port h) (next (ignores (change-feature u _ port false)) (ignores (change-feature u _ port false)))
 
     pub child-reset : (child : ℕ) → Keeps (Held b s) (hubChildReset p child) Any
     unfolding hubChildReset

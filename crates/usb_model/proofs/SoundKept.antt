@@ -68,10 +68,12 @@ root-hub speed l = allocates (λ w e. e .held) _ λ w e p first inside.
     let r = e .held .sound in
     let fresh = root-fresh r first inside (e .none) in
     moved (since-join (e .held .since) (root-since r first inside (e .none)))
-    (next-to grown (puts (fresh .place) Speed speed (λ h m. omega arith) (inl (omega arith))) (next-to grown (puts-status (fresh .place) _ (omega arith)) (attaches 32 p _ fresh))
+    (next-to grown (puts (fresh .place) Speed speed (λ h m. omega arith) (inl (omega arith)))
+    (next-to grown (puts-status (fresh .place) _ (omega arith)) (attaches 32 p _ fresh))
     .run _ (here _ (root-sound r first inside (e .none))))
 
-pub root-hub-stays : (w : World) → Sound (w .store) → byteAt (w .store) 0 Used ≡ 0 → (speed : ℕ) → speed < 3 → Stays (usbAttachRootHub speed) w
+pub root-hub-stays : (w : World) → Sound (w .store) → byteAt (w .store) 0 Used ≡ 0 → (speed : ℕ) → speed < 3
+    → Stays (usbAttachRootHub speed) w
 root-hub-stays w r none speed l = left-holds (root-hub speed l .run w (record { held = here w r; none = none }))
 
 -- ---- the entry points
@@ -88,7 +90,8 @@ module _ (lent : Lent) where
   called-sound (refused r) m e h = let z : _≡_ {A = ℕ} 0 1 = cc in absurd (omega arith)
 
   -- a call that names a hub
-  hub-called : (hub : ℕ) (bad : Bool) (m : M (Unit {0})) → hubVerdict lent hub bad ≡ accepted → (Sound (lent .old) → At (lent .old) hub 1 → bad ≡ false → Stays m (start lent))
+  hub-called : (hub : ℕ) (bad : Bool) (m : M (Unit {0})) → hubVerdict lent hub bad ≡ accepted
+      → (Sound (lent .old) → At (lent .old) hub 1 → bad ≡ false → Stays m (start lent))
       → Sound (call lent (hubVerdict lent hub bad) m .new)
   hub-called hub bad m e h =
       let x = hub-accepted lent hub bad e in
@@ -106,15 +109,18 @@ module _ (lent : Lent) where
 
   pub port-check-sound : (hub port : ℕ) → hubVerdict lent hub (noPort port) ≡ accepted → Sound (portCheck hub port lent .new)
   unfolding portCheck
-  port-check-sound hub port e = hub-called hub (noPort port) _ e λ r u g. check-connection-stays (start lent) r u 32 port (omega (arith, ltb-false 9 port g))
+  port-check-sound hub port e =
+      hub-called hub (noPort port) _ e λ r u g. check-connection-stays (start lent) r u 32 port (omega (arith, ltb-false 9 port g))
 
   pub connection-change-sound : (hub port : ℕ) → hubVerdict lent hub (noPort port) ≡ accepted → Sound (connectionChange hub port lent .new)
   unfolding connectionChange
-  connection-change-sound hub port e = hub-called hub (noPort port) _ e λ r u g. connection-changed-stays (start lent) r u 32 port (omega (arith, ltb-false 9 port g))
+  connection-change-sound hub port e =
+      hub-called hub (noPort port) _ e λ r u g. connection-changed-stays (start lent) r u 32 port (omega (arith, ltb-false 9 port g))
 
   pub retried-reset-sound : (hub port : ℕ) → hubVerdict lent hub (noPort port) ≡ accepted → Sound (retriedReset hub port lent .new)
   unfolding retriedReset
-  retried-reset-sound hub port e = hub-called hub (noPort port) _ e λ r u g. reset-stays (start lent) r u port (omega (arith, ltb-false 9 port g))
+  retried-reset-sound hub port e =
+      hub-called hub (noPort port) _ e λ r u g. reset-stays (start lent) r u port (omega (arith, ltb-false 9 port g))
 
   pub child-check-sound : (hub child : ℕ) → hubVerdict lent hub (isUnused lent child) ≡ accepted → Sound (childCheck hub child lent .new)
   unfolding childCheck

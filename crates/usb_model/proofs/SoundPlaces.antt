@@ -26,7 +26,9 @@ zero-run l a n e g x y =
     ap (λ (k : ℕ). getD l k 0) i ∙ sym (getD-drop a l (g - a) 0) ∙ sym (getD-take n (drop a l) (g - a) 0 (omega arith))
     ∙ ap (λ (m : List ℕ). getD m (g - a) 0) e ∙ getD-replicate n (g - a) 0 0 (omega arith)
 
-new-first : (p : ℕ) → (getD (newDevice p) 0 0 ≡ 1) × (getD (newDevice p) 1 0 ≡ p + 1) × (getD (newDevice p) 2 0 ≡ 1) × (getD (newDevice p) 3 0 ≡ 0) × (getD (newDevice p) 6 0 ≡ 0) × (getD (newDevice p) 7 0 ≡ 0)
+new-first : (p : ℕ)
+    → (getD (newDevice p) 0 0 ≡ 1) × (getD (newDevice p) 1 0 ≡ p + 1) × (getD (newDevice p) 2 0 ≡ 1) × (getD (newDevice p) 3 0 ≡ 0)
+    × (getD (newDevice p) 6 0 ≡ 0) × (getD (newDevice p) 7 0 ≡ 0)
 unfolding newDevice
 new-first p = (refl, refl, refl, refl, refl, refl)
 
@@ -101,7 +103,8 @@ module _ {N : ℕ → ℕ → Type 0} {s t : List ℕ} (r : Sound s) {p : ℕ} (
   taken-cells = record { size = k .size; at = λ q g l m. go q g m (ℕ-discrete q p) }
     where
       go : (q g : ℕ) → g < 1152 → Dec (q ≡ p) → (byteAt t q g ≡ byteAt s q g) ⊎ Rule (byteAt s q Hub) q g (byteAt t q g)
-      go q g m (yes e) = rw e (⊎-elim (λ z. inl (k .new g m ∙ z ∙ sym (zero g m))) (λ z. inr (rw (k .new g m, zero Hub (omega arith)) z)) (new-cell p g m))
+      go q g m (yes e) =
+          rw e (⊎-elim (λ z. inl (k .new g m ∙ z ∙ sym (zero g m))) (λ z. inr (rw (k .new g m, zero Hub (omega arith)) z)) (new-cell p g m))
       go q g m (no n) = ⊎-elim (λ e. inl e) (λ e. inr (omega arith)) (apart q g n m)
 
   errors-same : (q : ℕ) → q < 32 → OneOf (numberAt t q Error 4) errors
@@ -130,7 +133,9 @@ module _ {N : ℕ → ℕ → Type 0} {s t : List ℕ} (r : Sound s) {p : ℕ} (
   was-child h i c l e = go (ℕ-discrete h p)
     where
       go : Dec (h ≡ p) → (IsChild s h i c) ⊎ (N h i × (c ≡ p))
-      go (yes a) = absurd (omega (arith, e, ap (λ (x : ℕ). byteAt t x (Child i)) a, k .new (Child i) (omega arith), new-zero p (Child i) (omega arith) (inl (omega arith))))
+      go (yes a) =
+          absurd
+          (omega (arith, e, ap (λ (x : ℕ). byteAt t x (Child i)) a, k .new (Child i) (omega arith), new-zero p (Child i) (omega arith) (inl (omega arith))))
       go (no n) = ⊎-elim (λ x. inl (sym x ∙ e)) (λ x. inr (x .0, omega (arith, e, x .3))) (k .child h i n l)
 
   -- what stood before stands there still
@@ -143,7 +148,9 @@ module _ {N : ℕ → ℕ → Type 0} {s t : List ℕ} (r : Sound s) {p : ℕ} (
     is-hub = λ z. c .is-hub (sym (plain (c .hub) Hub there (omega arith)) ∙ z);
     stands = ⊎-elim (λ e. e ∙ c .stands) (λ e. absurd (omega (arith, e .2, c .stands))) (k .child (c .hub) (c .port) there (c .within));
     once = λ h i a l e. ⊎-elim (c .once h i a l) (λ x. absurd (n (x .1))) (was-child h i q l e);
-    parent = ⊎-elim (λ e. inl (plain q Parent n (omega arith) ∙ e)) (λ e. inr (plain q Parent n (omega arith) ∙ e .0, plain q PortNumber n (omega arith) ∙ e .1)) (c .parent);
+    parent =
+        ⊎-elim (λ e. inl (plain q Parent n (omega arith) ∙ e))
+        (λ e. inr (plain q Parent n (omega arith) ∙ e .0, plain q PortNumber n (omega arith) ∙ e .1)) (c .parent);
   }
     where
       there : c .hub ≢ p
@@ -166,7 +173,10 @@ module _ {N : ℕ → ℕ → Type 0} {s t : List ℕ} (r : Sound s) {p : ℕ} (
   }
 
   taken-fresh : Fresh t p
-  taken-fresh = record { place = record { inside = inside; used = omega (arith, here-used .1); hub = omega arith }; hub = k .new Hub (omega arith) ∙ new-first p .5 }
+  taken-fresh = record {
+    place = record { inside = inside; used = omega (arith, here-used .1); hub = omega arith };
+    hub = k .new Hub (omega arith) ∙ new-first p .5;
+  }
 
   -- so it is sound, if the places before it are used, and it is the first or stands as a child
   taken-sound : ((q : ℕ) → q < p → IsUsed s q) → ((h i : ℕ) → N h i → p ≢ 0) → (p ≢ 0 → ChildOnce t p) → Sound t
@@ -200,13 +210,15 @@ module _ {s : List ℕ} (r : Sound s) {p : ℕ} (first : p ≡ firstUnused s) (i
   free = ap (λ (k : ℕ). byteAt s k Used) first ∙ first-unused s (omega (arith, first))
 
   before : (q : ℕ) → q < p → IsUsed s q
-  before q l = is-used {k = 0} r (record { inside = omega arith; used = omega (arith, first-before s q (omega (arith, first))); hub = omega arith })
+  before q l =
+      is-used {k = 0} r (record { inside = omega arith; used = omega (arith, first-before s q (omega (arith, first))); hub = omega arith })
 
   abbrev pub with-new : List ℕ
   with-new = withBytes s p 0 (newDevice p)
 
   new-other : (q g : ℕ) → q ≢ p → g < 1152 → byteAt with-new q g ≡ byteAt s q g
-  new-other q g n l = other-place s p 0 (newDevice p) (record { whole = r .whole; inside = inside; room = omega (arith, length-new p) }) q g l n
+  new-other q g n l =
+      other-place s p 0 (newDevice p) (record { whole = r .whole; inside = inside; room = omega (arith, length-new p) }) q g l n
 
   -- the root hub, where no place is used
   module _ (empty : byteAt s 0 Used ≡ 0) where
@@ -265,8 +277,10 @@ module _ {s : List ℕ} (r : Sound s) {p : ℕ} (first : p ≡ firstUnused s) (i
     }
       where
         ports : (q i : ℕ) → q ≢ p → i < 10 → Dec (q ≡ h) → Dec (i ≡ j)
-            → (byteAt with-child q (Child i) ≡ byteAt s q (Child i)) ⊎ (((q ≡ h) × (i ≡ j)) × (0 < byteAt s q Hub) × (byteAt s q (Child i) ≡ 0) × (byteAt with-child q (Child i) ≡ p + 1))
-        ports q i n l (yes a) (yes b) = inr ((a, b), omega (arith, u .hub, ap (λ (k : ℕ). byteAt s k Hub) a), rw (a, b) vacant, rw (a, b) child-stands)
+            → (byteAt with-child q (Child i) ≡ byteAt s q (Child i))
+            ⊎ (((q ≡ h) × (i ≡ j)) × (0 < byteAt s q Hub) × (byteAt s q (Child i) ≡ 0) × (byteAt with-child q (Child i) ≡ p + 1))
+        ports q i n l (yes a) (yes b) =
+            inr ((a, b), omega (arith, u .hub, ap (λ (k : ℕ). byteAt s k Hub) a), rw (a, b) vacant, rw (a, b) child-stands)
         ports q i n l (yes a) (no b) = inl (as-before q (Child i) n (omega arith) (λ _ e. b (omega arith)))
         ports q i n l (no a) b = inl (as-before q (Child i) n (omega arith) (λ e _. a e))
 
@@ -284,6 +298,7 @@ module _ {s : List ℕ} (r : Sound s) {p : ℕ} (first : p ≡ firstUnused s) (i
       within = port;
       is-hub = λ z. omega (arith, z, u .hub, plain r inside free child-taken h Hub (λ e. omega (arith, below)) (omega arith));
       stands = child-stands;
-      once = λ q i a l e. ⊎-elim (λ c. absurd (not-here r inside free child-taken p (r .children q i p a l c) refl)) (λ x. x .0) (was-child r inside free child-taken q i p l e);
+      once = λ q i a l e. ⊎-elim (λ c. absurd (not-here r inside free child-taken p (r .children q i p a l c) refl)) (λ x. x .0)
+          (was-child r inside free child-taken q i p l e);
       parent = inl (child-taken .new Parent (omega arith) ∙ new-first p .4);
     })

@@ -67,14 +67,19 @@ module _ {b : Bool} {s : List ℕ} where
   unfolding get
   gets-most {p} u = looks _ (λ w h. h .sound .max-children p (u .inside))
 
-  pub puts : {p k : ℕ} → At s p k → (f v : ℕ) → ((h : ℕ) → k ≤ h → May b h p f v) → (f + 1 ≤ 8) ⊎ (12 ≤ f) → Keeps (Held b s) (put p f v) Any
+  pub puts : {p k : ℕ} → At s p k → (f v : ℕ) → ((h : ℕ) → k ≤ h → May b h p f v) → (f + 1 ≤ 8) ⊎ (12 ≤ f)
+      → Keeps (Held b s) (put p f v) Any
   unfolding put
-  puts u f v may clear = changes _ (λ w h. let a = later (h .since) u in held-edit h (byte-edit (h .sound) (some-place a) f v (may _ (a .hub)) clear))
+  puts u f v may clear =
+      changes _ (λ w h. let a = later (h .since) u in held-edit h (byte-edit (h .sound) (some-place a) f v (may _ (a .hub)) clear))
 
-  pub puts-bytes : {p k : ℕ} → At s p k → (f : ℕ) (vs : List ℕ) → f + length vs ≤ 1152 → ((h i : ℕ) → k ≤ h → i < length vs → May b h p (f + i) (getD vs i 0)) → (f + length vs ≤ 8) ⊎ (12 ≤ f)
+  pub puts-bytes : {p k : ℕ} → At s p k → (f : ℕ) (vs : List ℕ) → f + length vs ≤ 1152
+      → ((h i : ℕ) → k ≤ h → i < length vs → May b h p (f + i) (getD vs i 0)) → (f + length vs ≤ 8) ⊎ (12 ≤ f)
       → Keeps (Held b s) (putBytes p f vs) Any
   unfolding putBytes
-  puts-bytes u f vs room may clear = changes _ (λ w h. let a = later (h .since) u in held-edit h (plain-edit (h .sound) (some-place a) f vs room (λ i l. may _ i (a .hub) l) clear))
+  puts-bytes u f vs room may clear =
+      changes _
+      (λ w h. let a = later (h .since) u in held-edit h (plain-edit (h .sound) (some-place a) f vs room (λ i l. may _ i (a .hub) l) clear))
 
   puts-error : {p k : ℕ} → At s p k → (v : ℕ) → OneOf v errors → v < 256 ^ 4 → Keeps (Held b s) (putNumber p 8 4 v) Any
   unfolding putNumber
@@ -82,13 +87,16 @@ module _ {b : Bool} {s : List ℕ} where
 
   puts-last : {p k : ℕ} → At s p k → (v : ℕ) → Keeps (Held b s) (putNumber p LastTransfer 4 v) Any
   unfolding putNumber
-  puts-last u v = changes _ (λ w h. held-edit h (plain-edit (h .sound) (some-place (later (h .since) u)) LastTransfer _ (omega arith) (λ i l. omega arith) (inr (omega arith))))
+  puts-last u v =
+      changes _
+      (λ w h. held-edit h (plain-edit (h .sound) (some-place (later (h .since) u)) LastTransfer _ (omega arith) (λ i l. omega arith) (inr (omega arith))))
 
   -- ---- the log
 
   logs : (action : List ℕ) → Keeps (Held b s) (logAction action) Any
   unfolding logAction
-  logs action = bind (peeks _) λ room _. next (whens _ (stops _)) (changes (appended action) (λ w h. record { sound = h .sound; since = h .since }))
+  logs action =
+      bind (peeks _) λ room _. next (whens _ (stops _)) (changes (appended action) (λ w h. record { sound = h .sound; since = h .since }))
 
   sends : (action : List ℕ) → Keeps (Held b s) (logRequest action) Any
   unfolding logRequest
@@ -109,7 +117,8 @@ record Word (e : ℕ) : Type 0 where
   word : OneOf (errorWord e) errors
   fits : errorWord e < 256 ^ 4
 
-word-decides : (e : ℕ) → Decides (oneOf (errorWord e) errors && ltb (errorWord e) (256 ^ 4)) (OneOf (errorWord e) errors × (errorWord e < 256 ^ 4))
+word-decides : (e : ℕ)
+    → Decides (oneOf (errorWord e) errors && ltb (errorWord e) (256 ^ 4)) (OneOf (errorWord e) errors × (errorWord e < 256 ^ 4))
 word-decides e = and-decides _ _ (one-decides (errorWord e) errors) (λ _. lt-decides (errorWord e) (256 ^ 4))
 
 listed-word : (submit e : ℕ) → listed submit e ≡ true → Word e
@@ -139,7 +148,8 @@ module _ {b : Bool} {s : List ℕ} where
       next (changes (taken _) (λ w h. record { sound = h .sound; since = h .since }))
       (gives _ (listed-word (getD rest 0 0) (getD rest 1 0) (not-false _ e)))))
 
-  delivers : {p k : ℕ} → At s p k → {c : Buffer} → Fits k c → (vs : List ℕ) → Keeps (Held b s) (putBytes p (c .field) (take (c .room) vs)) Any
+  delivers : {p k : ℕ} → At s p k → {c : Buffer} → Fits k c → (vs : List ℕ)
+      → Keeps (Held b s) (putBytes p (c .field) (take (c .room) vs)) Any
   delivers u {c} fits vs =
       let long = length-take (c .room) vs in
       puts-bytes u (c .field) (take (c .room) vs) (omega (arith, long, fits .room)) (λ h i l m. fits .may _ h _ _ _ l (omega arith) (omega (arith, long)))

@@ -37,7 +37,8 @@ module _ (s : List ℕ) (p f : ℕ) (vs : List ℕ) (w : Within s p f (length vs
       go (no a) (no b) (no c) (yes d) =
           let e : q ≡ p = omega arith in
           let i : g ≡ f + (g - f) = omega arith in
-          written (g - f) (omega arith) e i (subst (λ (k : ℕ). byteAt (withBytes s p f vs) q k ≡ getD vs (g - f) 0) (sym i) (rw e (new-byte (g - f) (omega arith))))
+          written (g - f) (omega arith) e i (subst (λ (k : ℕ). byteAt (withBytes s p f vs) q k ≡ getD vs (g - f) 0) (sym i)
+          (rw e (new-byte (g - f) (omega arith))))
       go (no a) (no b) (no c) (no d) = kept (byte-other s p f vs q g (inl (omega arith)))
 
   -- a byte of another place
@@ -74,7 +75,8 @@ pub record Tree (s : List ℕ) : Type 0 where
 
 -- where all numbers below n are listed
 listed-below : (ys : List ℕ) (n : ℕ) → every (λ v. oneOf v ys) 0 n ≡ true → (v : ℕ) → v < n → OneOf v ys
-listed-below ys n all v l = every-decides (λ v. oneOf v ys) (λ v. OneOf v ys) (λ v. one-decides v ys) 0 n .only all v (omega arith) (omega arith)
+listed-below ys n all v l =
+    every-decides (λ v. oneOf v ys) (λ v. OneOf v ys) (λ v. one-decides v ys) 0 n .only all v (omega arith) (omega arith)
 
 none-or : (v n : ℕ) → (v ≢ 0 → v ≡ n) → OneOf v (0 ∷ n ∷ [])
 none-or v n h = go (ℕ-discrete v 0)
@@ -90,7 +92,8 @@ pub record Cells (s t : List ℕ) : Type 0 where
 
 module _ {s t : List ℕ} (r : Sound s) (c : Cells s t) where
   -- what holds of the byte as it was, and of a byte that keeps the rules, holds of the byte
-  by-cell : (q g : ℕ) → q < 32 → g < 1152 → (P : ℕ → Type 0) → P (byteAt s q g) → (Rule (byteAt s q Hub) q g (byteAt t q g) → P (byteAt t q g)) → P (byteAt t q g)
+  by-cell : (q g : ℕ) → q < 32 → g < 1152 → (P : ℕ → Type 0) → P (byteAt s q g)
+      → (Rule (byteAt s q Hub) q g (byteAt t q g) → P (byteAt t q g)) → P (byteAt t q g)
   by-cell q g l m P old new = ⊎-elim (λ e. subst P (sym e) old) new (c .at q g l m)
 
   pub hub-grows : (q : ℕ) → q < 32 → byteAt s q Hub ≤ byteAt t q Hub
@@ -98,7 +101,8 @@ module _ {s t : List ℕ} (r : Sound s) (c : Cells s t) where
 
   no-hub : (q : ℕ) → q < 32 → byteAt t q Hub ≡ 0 → (f : ℕ) → 43 ≤ f → f ≤ 106 → byteAt t q f ≡ 0
   no-hub q l e f a b =
-      by-cell q f l (omega arith) (λ v. v ≡ 0) (r .no-hub q l (omega (arith, e, hub-grows q l)) f a b) (λ z. absurd (omega (arith, e, hub-grows q l, z .data′ a b)))
+      by-cell q f l (omega arith) (λ v. v ≡ 0) (r .no-hub q l (omega (arith, e, hub-grows q l)) f a b)
+      (λ z. absurd (omega (arith, e, hub-grows q l, z .data′ a b)))
 
   no-descriptor : (q : ℕ) → q < 32 → byteAt t q Hub ≡ 1 → (f : ℕ) → 43 ≤ f → f ≤ 51 → byteAt t q f ≡ 0
   no-descriptor q l e f a b =
@@ -236,7 +240,8 @@ module _ {b : Bool} {s : List ℕ} (r : Sound s) {p : ℕ} (u : At s p 0) (f : �
   write-cells : Cells s (withBytes s p f vs)
   write-cells = record { size = with-length s p f vs; at = λ q g l m. go q g (cell s p f vs within q g m) }
     where
-      go : (q g : ℕ) → Cell s (withBytes s p f vs) p f vs q g → (byteAt (withBytes s p f vs) q g ≡ byteAt s q g) ⊎ Rule (byteAt s q Hub) q g (byteAt (withBytes s p f vs) q g)
+      go : (q g : ℕ) → Cell s (withBytes s p f vs) p f vs q g
+          → (byteAt (withBytes s p f vs) q g ≡ byteAt s q g) ⊎ Rule (byteAt s q Hub) q g (byteAt (withBytes s p f vs) q g)
       go q g (kept e) = inl e
       go q g (written i l a e v) = inr (rw (v, a, e) (may i l .rule))
 
@@ -248,7 +253,8 @@ module _ {b : Bool} {s : List ℕ} (r : Sound s) {p : ℕ} (u : At s p 0) (f : �
     used = λ q. still q Used (omega arith) (λ v m. m .used refl);
     child = still-child;
     unused = λ q z g l. other-place s p f vs within q g l (λ a. omega (arith, u .used, z, ap (λ (k : ℕ). byteAt s k Used) a));
-    parent = λ h j q a l c. ⊎-elim (λ e. inl (still-parent q ∙ e)) (λ e. inr (still-parent q ∙ e .0, still q PortNumber (omega arith) (λ v m. m .port refl) ∙ e .1));
+    parent = λ h j q a l c. ⊎-elim (λ e. inl (still-parent q ∙ e))
+        (λ e. inr (still-parent q ∙ e .0, still q PortNumber (omega arith) (λ v m. m .port refl) ∙ e .1));
     root-parent = still-parent 0 ∙ r .root-parent;
   }
     where
@@ -256,24 +262,32 @@ module _ {b : Bool} {s : List ℕ} (r : Sound s) {p : ℕ} (u : At s p 0) (f : �
       still-parent q = still q Parent (omega arith) (λ v m. m .parent refl)
 
       errors-of : (q : ℕ) → q < 32 → Dec (p < q) → Dec (q < p) → OneOf (numberAt (withBytes s p f vs) q Error 4) errors
-      errors-of q l (yes a) c = rw (number-other s p f vs q Error 4 (places-apart p f (length vs) q Error 4 room (omega arith) (inl a))) (r .error q l)
-      errors-of q l (no a) (yes c) = rw (number-other s p f vs q Error 4 (places-apart p f (length vs) q Error 4 room (omega arith) (inr c))) (r .error q l)
+      errors-of q l (yes a) c =
+          rw (number-other s p f vs q Error 4 (places-apart p f (length vs) q Error 4 room (omega arith) (inl a))) (r .error q l)
+      errors-of q l (no a) (yes c) =
+          rw (number-other s p f vs q Error 4 (places-apart p f (length vs) q Error 4 room (omega arith) (inr c))) (r .error q l)
       errors-of q l (no a) (no c) = let e : q ≡ p = omega arith in rw e error
 
   -- a field that is not the error
   pub plain-edit : (f + length vs ≤ 8) ⊎ (12 ≤ f) → Edit b s (withBytes s p f vs)
   plain-edit clear = write-edit (rw (number-other s p f vs p Error 4 (fields-apart p f (length vs) Error 4 clear)) (r .error p (u .inside)))
 
-pub byte-edit : {b : Bool} {s : List ℕ} → Sound s → {p : ℕ} → At s p 0 → (f v : ℕ) → May b (byteAt s p Hub) p f v → (f + 1 ≤ 8) ⊎ (12 ≤ f) → Edit b s (withByte s p f v)
+pub byte-edit : {b : Bool} {s : List ℕ} → Sound s → {p : ℕ} → At s p 0 → (f v : ℕ) → May b (byteAt s p Hub) p f v → (f + 1 ≤ 8) ⊎ (12 ≤ f)
+    → Edit b s (withByte s p f v)
 byte-edit {b} {s} r {p} u f v m clear = plain-edit r u f (v ∷ []) (omega (arith, m .rule .tail)) go clear
   where
     go : (i : ℕ) → i < 1 → May b (byteAt s p Hub) p (f + i) (getD (v ∷ []) i 0)
     go zero l = rw add-zero m
     go (suc i) l = absurd (omega arith)
 
-pub error-edit : {b : Bool} {s : List ℕ} → Sound s → {p : ℕ} → At s p 0 → (v : ℕ) → OneOf v errors → v < 256 ^ 4 → Edit b s (withNumber s p Error 4 v)
+pub error-edit : {b : Bool} {s : List ℕ} → Sound s → {p : ℕ} → At s p 0 → (v : ℕ) → OneOf v errors → v < 256 ^ 4
+    → Edit b s (withNumber s p Error 4 v)
 error-edit {b} {s} r {p} u v listed l =
-    write-edit r u Error (littleEndian 4 v) (omega arith) (λ i m. omega arith) (rw (number-same s p Error 4 v (record { whole = r .whole; inside = u .inside; room = omega arith }) l) listed)
+    write-edit r u Error (littleEndian 4 v) (omega arith) (λ i m. omega arith) (rw (number-same s p Error 4 v (record {
+      whole = r .whole;
+      inside = u .inside;
+      room = omega arith;
+    }) l) listed)
 
 -- the hub byte grows
 pub hub-edit : {s : List ℕ} → Sound s → {p : ℕ} → At s p 0 → (v : ℕ) → byteAt s p Hub ≤ v → v < 3 → Edit false s (withByte s p Hub v)
@@ -289,7 +303,8 @@ hub-edit {s} r {p} u v grows most = byte-edit r u Hub v (record {
 -- ---- stores that differ in a few bytes
 
 -- a byte other than the one written
-pub one-other : {s : List ℕ} {p f : ℕ} → Within s p f 1 → (v q g : ℕ) → g < 1152 → (q ≡ p → g ≡ f → ⊥) → byteAt (withByte s p f v) q g ≡ byteAt s q g
+pub one-other : {s : List ℕ} {p f : ℕ} → Within s p f 1 → (v q g : ℕ) → g < 1152 → (q ≡ p → g ≡ f → ⊥)
+    → byteAt (withByte s p f v) q g ≡ byteAt s q g
 one-other {s} {p} {f} w v q g l n = go (cell s p f (v ∷ []) w q g l)
   where
     go : Cell s (withByte s p f v) p f (v ∷ []) q g → byteAt (withByte s p f v) q g ≡ byteAt s q g
@@ -297,7 +312,8 @@ one-other {s} {p} {f} w v q g l n = go (cell s p f (v ∷ []) w q g l)
     go (written i m a e x) = absurd (n a (omega arith))
 
 -- the error of a place, where its four bytes are as they were
-pub error-same : {s : List ℕ} (t : List ℕ) → Sound s → length t ≡ length s → (q : ℕ) → q < 32 → ((i : ℕ) → i < 4 → byteAt t q (8 + i) ≡ byteAt s q (8 + i)) → OneOf (numberAt t q Error 4) errors
+pub error-same : {s : List ℕ} (t : List ℕ) → Sound s → length t ≡ length s → (q : ℕ) → q < 32
+    → ((i : ℕ) → i < 4 → byteAt t q (8 + i) ≡ byteAt s q (8 + i)) → OneOf (numberAt t q Error 4) errors
 error-same {s} t r size q l same = subst (λ (v : ℕ). OneOf v errors) equal (r .error q l)
   where
     equal : numberAt s q Error 4 ≡ numberAt t q Error 4
@@ -351,7 +367,8 @@ module _ {s : List ℕ} (r : Sound s) {p : ℕ} (u : At s p 0) (h j : ℕ) (insi
     root-parent = same 0 Parent (omega arith) (λ a b c. not-root (sym a)) ∙ r .root-parent;
   }
     where
-      cells : (q g : ℕ) → g < 1152 → Dec (g < 5) → Dec (6 < g) → (byteAt with-parent q g ≡ byteAt s q g) ⊎ Rule (byteAt s q Hub) q g (byteAt with-parent q g)
+      cells : (q g : ℕ) → g < 1152 → Dec (g < 5) → Dec (6 < g)
+          → (byteAt with-parent q g ≡ byteAt s q g) ⊎ Rule (byteAt s q Hub) q g (byteAt with-parent q g)
       cells q g l (yes a) b = inl (same q g l (λ _ c d. omega arith))
       cells q g l (no a) (yes b) = inl (same q g l (λ _ c d. omega arith))
       cells q g l (no a) (no b) = inr (omega arith)
@@ -363,4 +380,5 @@ module _ {s : List ℕ} (r : Sound s) {p : ℕ} (u : At s p 0) (h j : ℕ) (insi
           let y = o .once k i a l (rw e at c) in
           inr (rw e (here .0 ∙ omega (arith, x .0, y .0)), rw e (here .1 ∙ omega (arith, x .1, y .1)))
       parents k i q a l c fits (no e) =
-          ⊎-elim (λ x. inl (same q Parent (omega arith) (λ a b c. e a) ∙ x)) (λ x. inr (same q Parent (omega arith) (λ a b c. e a) ∙ x .0, same q PortNumber (omega arith) (λ a b c. e a) ∙ x .1)) fits
+          ⊎-elim (λ x. inl (same q Parent (omega arith) (λ a b c. e a) ∙ x))
+          (λ x. inr (same q Parent (omega arith) (λ a b c. e a) ∙ x .0, same q PortNumber (omega arith) (λ a b c. e a) ∙ x .1)) fits

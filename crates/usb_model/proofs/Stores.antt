@@ -91,7 +91,8 @@ key-apart p f n q r k = go k (decLt p q) (decLt q p)
 pub first-kept : (s t : List ℕ) → ((q : ℕ) → byteAt s q Used ≢ 0 → byteAt t q Used ≢ 0) → firstUnused s ≤ firstUnused t
 first-kept s t h = first-least t (firstUnused s) (first-most s) (λ q l. h q (first-before s q l))
 
-above-kept : {s t : List ℕ} (h q : ℕ) → byteAt t h (Child q) ≡ byteAt s h (Child q) → firstUnused s ≤ firstUnused t → Above s h q → Above t h q
+above-kept : {s t : List ℕ} (h q : ℕ) → byteAt t h (Child q) ≡ byteAt s h (Child q) → firstUnused s ≤ firstUnused t → Above s h q
+    → Above t h q
 above-kept h q e f a = record { above = omega (arith, e, a .above); used = omega (arith, e, a .used) }
 
 -- a new device has no children
@@ -137,10 +138,12 @@ module _ {w : World} (g : Good w) where
 
   module _ (p f v : ℕ) (inside : p < 32) (low : f < 1152) where
     -- a byte is the one that was written, or it is as it was
-    one-byte : (q k : ℕ) → k < 1152 → ((q ≡ p) × (k ≡ f) × (byteAt (withByte (w .store) p f v) q k ≡ v)) ⊎ (byteAt (withByte (w .store) p f v) q k ≡ byteAt (w .store) q k)
+    one-byte : (q k : ℕ) → k < 1152
+        → ((q ≡ p) × (k ≡ f) × (byteAt (withByte (w .store) p f v) q k ≡ v)) ⊎ (byteAt (withByte (w .store) p f v) q k ≡ byteAt (w .store) q k)
     one-byte q k l = go (decLt p q) (decLt q p) (decLt f k) (decLt k f)
       where
-        go : Dec (p < q) → Dec (q < p) → Dec (f < k) → Dec (k < f) → ((q ≡ p) × (k ≡ f) × (byteAt (withByte (w .store) p f v) q k ≡ v)) ⊎ (byteAt (withByte (w .store) p f v) q k ≡ byteAt (w .store) q k)
+        go : Dec (p < q) → Dec (q < p) → Dec (f < k) → Dec (k < f)
+            → ((q ≡ p) × (k ≡ f) × (byteAt (withByte (w .store) p f v) q k ≡ v)) ⊎ (byteAt (withByte (w .store) p f v) q k ≡ byteAt (w .store) q k)
         go (yes a) b c d = inr (byte-other (w .store) p f (v ∷ []) q k (inl (omega arith)))
         go (no a) (yes b) c d = inr (byte-other (w .store) p f (v ∷ []) q k (inr (omega arith)))
         go (no a) (no b) (yes c) d = inr (byte-other (w .store) p f (v ∷ []) q k (inl (omega arith)))
@@ -151,11 +154,14 @@ module _ {w : World} (g : Good w) where
             inl (e, i, rw (e, i) (byte-same (w .store) p f v (record { whole = g .whole; inside = inside; room = omega arith })))
 
     -- what holds of the byte written, and of the byte as it was, holds of the byte
-    one-case : (q k : ℕ) → k < 1152 → (P : ℕ → Type 0) → (q ≡ p → k ≡ f → P v) → P (byteAt (w .store) q k) → P (byteAt (withByte (w .store) p f v) q k)
+    one-case : (q k : ℕ) → k < 1152 → (P : ℕ → Type 0) → (q ≡ p → k ≡ f → P v) → P (byteAt (w .store) q k)
+        → P (byteAt (withByte (w .store) p f v) q k)
     one-case q k l P new old = ⊎-elim (λ e. subst P (sym (e .2)) (new (e .0) (e .1))) (λ e. subst P (sym e) old) (one-byte q k l)
 
     first-one : 0 < f → firstUnused (w .store) ≤ firstUnused (withByte (w .store) p f v)
-    first-one h = first-kept (w .store) (withByte (w .store) p f v) (λ q n. one-case q Used (omega arith) (λ b. b ≢ 0) (λ _ e. absurd (omega arith)) n)
+    first-one h =
+        first-kept (w .store) (withByte (w .store) p f v)
+        (λ q n. one-case q Used (omega arith) (λ b. b ≢ 0) (λ _ e. absurd (omega arith)) n)
 
   pub most-follows : (p v : ℕ) → p < 32 → v ≤ 10 → Follows (w .store) (withByte (w .store) p MaxChildren v)
   most-follows p v inside h =
@@ -169,13 +175,17 @@ module _ {w : World} (g : Good w) where
         child = λ k q l n. kept k q l first n;
       }
     where
-      kept : (k q : ℕ) → q < 10 → firstUnused (w .store) ≤ firstUnused (withByte (w .store) p MaxChildren v) → byteAt (withByte (w .store) p MaxChildren v) k (Child q) ≢ 0 → Above (withByte (w .store) p MaxChildren v) k q
+      kept : (k q : ℕ) → q < 10 → firstUnused (w .store) ≤ firstUnused (withByte (w .store) p MaxChildren v)
+          → byteAt (withByte (w .store) p MaxChildren v) k (Child q) ≢ 0 → Above (withByte (w .store) p MaxChildren v) k q
       kept k q l first n =
-          let same : byteAt (withByte (w .store) p MaxChildren v) k (Child q) ≡ byteAt (w .store) k (Child q) = one-case p MaxChildren v inside (omega arith) k (Child q) (omega arith) (λ b. b ≡ byteAt (w .store) k (Child q)) (λ _ e. absurd (omega arith)) refl in
+          let same : byteAt (withByte (w .store) p MaxChildren v) k (Child q) ≡ byteAt (w .store) k (Child q) =
+          one-case p MaxChildren v inside (omega arith) k (Child q) (omega arith)
+          (λ b. b ≡ byteAt (w .store) k (Child q)) (λ _ e. absurd (omega arith)) refl in
           above-kept k q same first (g .child k q l (λ z. n (same ∙ z)))
 
   -- the child c stands above its hub, and all places up to it are used
-  pub child-follows : (p j c : ℕ) → p < 32 → j < 10 → p + 1 < c → c ≤ firstUnused (w .store) → Follows (w .store) (withByte (w .store) p (Child j) c)
+  pub child-follows : (p j c : ℕ) → p < 32 → j < 10 → p + 1 < c → c ≤ firstUnused (w .store)
+      → Follows (w .store) (withByte (w .store) p (Child j) c)
   child-follows p j c inside h above low = record {
     size = with-length (w .store) p (Child j) (c ∷ []);
     free = omega (arith, free-field (w .store) p (Child j) (c ∷ []) (omega arith) (omega arith));
@@ -211,7 +221,8 @@ module _ {w : World} (g : Good w) where
         go (no a) = inr (omega (arith, n))
 
     -- what holds of the new device's byte, and of the byte as it was, holds of the byte
-    new-case : (q k : ℕ) → k < 1152 → (P : ℕ → Type 0) → (q ≡ p → P (getD (newDevice p) k 0)) → (q ≢ p → P (byteAt (w .store) q k)) → P (byteAt with-new q k)
+    new-case : (q k : ℕ) → k < 1152 → (P : ℕ → Type 0) → (q ≡ p → P (getD (newDevice p) k 0)) → (q ≢ p → P (byteAt (w .store) q k))
+        → P (byteAt with-new q k)
     new-case q k l P new old = go (ℕ-discrete q p)
       where
         go : Dec (q ≡ p) → P (byteAt with-new q k)
@@ -219,13 +230,18 @@ module _ {w : World} (g : Good w) where
         go (no n) = subst P (sym (elsewhere q k n l)) (old n)
 
     pub first-new : p + 1 ≤ firstUnused with-new
-    first-new = first-least with-new (p + 1) (omega arith) (λ q l. new-case q Used (omega arith) (λ b. b ≢ 0) (λ e. new-one) (λ n. first-before (w .store) q (omega (arith, n, here))))
+    first-new =
+        first-least with-new (p + 1) (omega arith)
+        (λ q l. new-case q Used (omega arith) (λ b. b ≢ 0) (λ e. new-one) (λ n. first-before (w .store) q (omega (arith, n, here))))
       where
         new-one : getD (newDevice p) Used 0 ≢ 0
-        new-one z = omega (arith, z, sym (new-byte (w .store) p Used (g .whole) inside (omega arith)) ∙ new-used (w .store) p (g .whole) inside)
+        new-one z =
+            omega (arith, z, sym (new-byte (w .store) p Used (g .whole) inside (omega arith)) ∙ new-used (w .store) p (g .whole) inside)
 
     pub free-new : freePlaces with-new + 1 ≡ freePlaces (w .store)
-    free-new = free-taken (w .store) p (g .whole) inside (ap (λ (k : ℕ). byteAt (w .store) k Used) here ∙ first-unused (w .store) (omega (arith, here)))
+    free-new =
+        free-taken (w .store) p (g .whole) inside
+        (ap (λ (k : ℕ). byteAt (w .store) k Used) here ∙ first-unused (w .store) (omega (arith, here)))
 
     pub new-follows : Follows (w .store) with-new
     new-follows = record {
@@ -241,7 +257,9 @@ module _ {w : World} (g : Good w) where
         kept h q l n = go (ℕ-discrete h p)
           where
             go : Dec (h ≡ p) → Above with-new h q
-            go (yes e) = absurd (n (ap (λ (k : ℕ). byteAt with-new k (Child q)) e ∙ new-byte (w .store) p (Child q) (g .whole) inside (omega arith) ∙ new-child p q l))
+            go (yes e) =
+                absurd
+                (n (ap (λ (k : ℕ). byteAt with-new k (Child q)) e ∙ new-byte (w .store) p (Child q) (g .whole) inside (omega arith) ∙ new-child p q l))
             go (no d) =
                 let same : byteAt with-new h (Child q) ≡ byteAt (w .store) h (Child q) = elsewhere h (Child q) d (omega arith) in
                 above-kept h q same (omega (arith, first-new, here)) (g .child h q l (λ z. n (same ∙ z)))

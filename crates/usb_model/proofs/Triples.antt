@@ -40,22 +40,28 @@ module _ {h₀ : List Event} where
   pub record Does {A : Type 0} (P : State h₀ → Type 0) (m : M A) (Q : A → State h₀ → Type 0) (N : State h₀ → Type 0) : Type 0 where
     pub run : (s : State h₀) → P s → Leads Q N (m (s .world))
 
-  pub leads-map : {A : Type 0} {Q Q′ : A → State h₀ → Type 0} {N N′ : State h₀ → Type 0} {r : Ran World A} → Leads Q N r → ((a : A) (s : State h₀) → Q a s → Q′ a s) → ((s : State h₀) → N s → N′ s) → Leads Q′ N′ r
+  pub leads-map : {A : Type 0} {Q Q′ : A → State h₀ → Type 0} {N N′ : State h₀ → Type 0} {r : Ran World A} → Leads Q N r
+      → ((a : A) (s : State h₀) → Q a s → Q′ a s) → ((s : State h₀) → N s → N′ s) → Leads Q′ N′ r
   leads-map (fine s q) f g = fine s (f _ s q)
   leads-map (bad s n) f g = bad s (g s n)
   leads-map gone f g = gone
 
-  pub does-map : {A : Type 0} {P P′ : State h₀ → Type 0} {Q Q′ : A → State h₀ → Type 0} {N N′ : State h₀ → Type 0} {m : M A} → ((s : State h₀) → P′ s → P s) → ((a : A) (s : State h₀) → Q a s → Q′ a s) → ((s : State h₀) → N s → N′ s) → Does P m Q N → Does P′ m Q′ N′
+  pub does-map : {A : Type 0} {P P′ : State h₀ → Type 0} {Q Q′ : A → State h₀ → Type 0} {N N′ : State h₀ → Type 0} {m : M A}
+      → ((s : State h₀) → P′ s → P s) → ((a : A) (s : State h₀) → Q a s → Q′ a s) → ((s : State h₀) → N s → N′ s) → Does P m Q N
+      → Does P′ m Q′ N′
   does-map f g k h = record { run = λ s p. leads-map (h .run s (f s p)) g k }
 
-  pub does-pre : {A : Type 0} {P P′ : State h₀ → Type 0} {Q : A → State h₀ → Type 0} {N : State h₀ → Type 0} {m : M A} → ((s : State h₀) → P′ s → P s) → Does P m Q N → Does P′ m Q N
+  pub does-pre : {A : Type 0} {P P′ : State h₀ → Type 0} {Q : A → State h₀ → Type 0} {N : State h₀ → Type 0} {m : M A}
+      → ((s : State h₀) → P′ s → P s) → Does P m Q N → Does P′ m Q N
   does-pre f h = record { run = λ s p. h .run s (f s p) }
 
   -- a fact that the state gives
-  pub does-given : {A F : Type 0} {P : State h₀ → Type 0} {Q : A → State h₀ → Type 0} {N : State h₀ → Type 0} {m : M A} → ((s : State h₀) → P s → F) → (F → Does P m Q N) → Does P m Q N
+  pub does-given : {A F : Type 0} {P : State h₀ → Type 0} {Q : A → State h₀ → Type 0} {N : State h₀ → Type 0} {m : M A}
+      → ((s : State h₀) → P s → F) → (F → Does P m Q N) → Does P m Q N
   does-given f h = record { run = λ s p. h (f s p) .run s p }
 
-  leads-on : {A B : Type 0} {Q : A → State h₀ → Type 0} {Q′ : B → State h₀ → Type 0} {N : State h₀ → Type 0} {r : Ran World A} {k : A → M B} → Leads Q N r → ((a : A) → Does (Q a) (k a) Q′ N) → Leads Q′ N (on r k)
+  leads-on : {A B : Type 0} {Q : A → State h₀ → Type 0} {Q′ : B → State h₀ → Type 0} {N : State h₀ → Type 0} {r : Ran World A} {k : A → M B}
+      → Leads Q N r → ((a : A) → Does (Q a) (k a) Q′ N) → Leads Q′ N (on r k)
   leads-on (fine s q) f = f _ .run s q
   leads-on (bad s n) f = bad s n
   leads-on gone f = gone
@@ -71,11 +77,13 @@ module _ {h₀ : List Event} where
   caught-leads gone = gone
 
   module _ {P N : State h₀ → Type 0} where
-    pub does-bind : {A B : Type 0} {Q : A → State h₀ → Type 0} {Q′ : B → State h₀ → Type 0} {m : M A} {k : A → M B} → Does P m Q N → ((a : A) → Does (Q a) (k a) Q′ N) → Does P (m >>= k) Q′ N
+    pub does-bind : {A B : Type 0} {Q : A → State h₀ → Type 0} {Q′ : B → State h₀ → Type 0} {m : M A} {k : A → M B} → Does P m Q N
+        → ((a : A) → Does (Q a) (k a) Q′ N) → Does P (m >>= k) Q′ N
     unfolding _>>=_
     does-bind h f = record { run = λ s p. leads-on (h .run s p) f }
 
-    pub does-next : {A B : Type 0} {Q : State h₀ → Type 0} {Q′ : B → State h₀ → Type 0} {m : M A} {k : M B} → Does P m (λ _. Q) N → Does Q k Q′ N → Does P (m >> k) Q′ N
+    pub does-next : {A B : Type 0} {Q : State h₀ → Type 0} {Q′ : B → State h₀ → Type 0} {m : M A} {k : M B} → Does P m (λ _. Q) N
+        → Does Q k Q′ N → Does P (m >> k) Q′ N
     unfolding _>>_
     does-next h f = record { run = λ s p. leads-on (h .run s p) (λ _. f) }
 
@@ -100,15 +108,18 @@ module _ {h₀ : List Event} where
     does-get p f = does-look _
 
     -- a byte whose value is known
-    pub does-known : {B : Type 0} {Q : B → State h₀ → Type 0} (k : ℕ → M B) (p f b : ℕ) → ((s : State h₀) → P s → byteAt (store s) p f ≡ b) → Does P (k b) Q N → Does P (get p f >>= k) Q N
+    pub does-known : {B : Type 0} {Q : B → State h₀ → Type 0} (k : ℕ → M B) (p f b : ℕ) → ((s : State h₀) → P s → byteAt (store s) p f ≡ b)
+        → Does P (k b) Q N → Does P (get p f >>= k) Q N
     unfolding _>>=_ get look
     does-known {Q} k p f b e h = record { run = λ s x. subst (λ (c : ℕ). Leads Q N (k c (s .world))) (sym (e s x)) (h .run s x) }
 
-    pub does-if : {A : Type 0} {Q : A → State h₀ → Type 0} (b : Bool) {m k : M A} → (b ≡ true → Does P m Q N) → (b ≡ false → Does P k Q N) → Does P (if b then m else k) Q N
+    pub does-if : {A : Type 0} {Q : A → State h₀ → Type 0} (b : Bool) {m k : M A} → (b ≡ true → Does P m Q N) → (b ≡ false → Does P k Q N)
+        → Does P (if b then m else k) Q N
     does-if true f g = f refl
     does-if false f g = g refl
 
-    pub does-when : {Q : Unit {0} → State h₀ → Type 0} (b : Bool) {m : M (Unit {0})} → (b ≡ true → Does P m Q N) → (b ≡ false → (s : State h₀) → P s → Q tt s) → Does P (when b m) Q N
+    pub does-when : {Q : Unit {0} → State h₀ → Type 0} (b : Bool) {m : M (Unit {0})} → (b ≡ true → Does P m Q N)
+        → (b ≡ false → (s : State h₀) → P s → Q tt s) → Does P (when b m) Q N
     unfolding when skip
     does-when b f g = does-if b f (λ e. record { run = λ s p. fine s (g e s p) })
 
@@ -139,7 +150,8 @@ module _ {h₀ : List Event} where
   unfolding ignore attempt _>>_
   does-ignore h = record { run = λ s p. either-way (h .run s p) }
 
-  pub does-each : {P N : State h₀ → Type 0} (k from : ℕ) {body : ℕ → M (Unit {0})} → ((i : ℕ) → i < from + k → Does P (body i) (λ _. P) N) → Does P (each k from body) (λ _. P) N
+  pub does-each : {P N : State h₀ → Type 0} (k from : ℕ) {body : ℕ → M (Unit {0})} → ((i : ℕ) → i < from + k → Does P (body i) (λ _. P) N)
+      → Does P (each k from body) (λ _. P) N
   unfolding each
   does-each zero from h = does-skip
   does-each (suc k) from h = does-next (h from (omega arith)) (does-each k (from + 1) (λ i l. h i (omega arith)))
@@ -155,7 +167,9 @@ module _ {h₀ : List Event} where
     reads = record { actions = s .reads .actions; logged = s .reads .logged; is = s .reads .is };
   }
 
-  pub does-store : {P N Q : State h₀ → Type 0} (g : List ℕ → List ℕ) → ((s : State h₀) → P s → (f : Follows (store s) (g (store s))) × Q (stored s (g (store s)) f)) → Does P (change (λ w. withStore (g (w .store)) w)) (λ _. Q) N
+  pub does-store : {P N Q : State h₀ → Type 0} (g : List ℕ → List ℕ)
+      → ((s : State h₀) → P s → (f : Follows (store s) (g (store s))) × Q (stored s (g (store s)) f))
+      → Does P (change (λ w. withStore (g (w .store)) w)) (λ _. Q) N
   unfolding change
   does-store g h = record { run = λ s p. fine (stored s (g (store s)) (h s p .0)) (h s p .1) }
 
@@ -173,16 +187,19 @@ module _ {h₀ : List Event} where
   Keeps R m = Gives R Any m
 
   -- a part that keeps to R
-  pub does-keep : {P N : State h₀ → Type 0} {R : State h₀ → State h₀ → Type 0} {A : Type 0} {S : A → Type 0} {m : M A} (Q : State h₀ → Type 0) → Gives R S m → ((s t : State h₀) → P s → R s t → Q t) → ((s : State h₀) → Q s → N s) → Does P m (λ a s. Q s × S a) N
+  pub does-keep : {P N : State h₀ → Type 0} {R : State h₀ → State h₀ → Type 0} {A : Type 0} {S : A → Type 0} {m : M A} (Q : State h₀ → Type 0)
+      → Gives R S m → ((s t : State h₀) → P s → R s t → Q t) → ((s : State h₀) → Q s → N s) → Does P m (λ a s. Q s × S a) N
   does-keep {S} Q k f g = record { run = λ s p. leads-map (k .run s) (λ a t r. (f s t p (r .0), r .1)) (λ t r. g t (f s t p r)) }
 
   module _ {R : State h₀ → State h₀ → Type 0} (o : Preorder R) where
-    gives-on : {A B : Type 0} {S : A → Type 0} {S′ : B → Type 0} (s : State h₀) {r : Ran World A} {k : A → M B} → Leads (λ a t. R s t × S a) (R s) r → ((a : A) → S a → Gives R S′ (k a)) → Leads (λ b t. R s t × S′ b) (R s) (on r k)
+    gives-on : {A B : Type 0} {S : A → Type 0} {S′ : B → Type 0} (s : State h₀) {r : Ran World A} {k : A → M B}
+        → Leads (λ a t. R s t × S a) (R s) r → ((a : A) → S a → Gives R S′ (k a)) → Leads (λ b t. R s t × S′ b) (R s) (on r k)
     gives-on s (fine t q) f = leads-map (f _ (q .1) .run t) (λ a u x. (o .join (q .0) (x .0), x .1)) (λ u x. o .join (q .0) x)
     gives-on s (bad t n) f = bad t n
     gives-on s gone f = gone
 
-    pub k-bind : {A B : Type 0} {S : A → Type 0} {S′ : B → Type 0} {m : M A} {k : A → M B} → Gives R S m → ((a : A) → S a → Gives R S′ (k a)) → Gives R S′ (m >>= k)
+    pub k-bind : {A B : Type 0} {S : A → Type 0} {S′ : B → Type 0} {m : M A} {k : A → M B} → Gives R S m
+        → ((a : A) → S a → Gives R S′ (k a)) → Gives R S′ (m >>= k)
     unfolding _>>=_
     k-bind h f = record { run = λ s. gives-on s (h .run s) f }
 
@@ -231,6 +248,7 @@ module _ {h₀ : List Event} where
     k-each zero from h = k-skip
     k-each (suc k) from h = k-next (h from (omega arith)) (k-each k (from + 1) (λ i l. h i (omega arith)))
 
-    pub k-store : (g : List ℕ → List ℕ) → ((s : State h₀) → (f : Follows (store s) (g (store s))) × R s (stored s (g (store s)) f)) → Keeps R (change (λ w. withStore (g (w .store)) w))
+    pub k-store : (g : List ℕ → List ℕ) → ((s : State h₀) → (f : Follows (store s) (g (store s))) × R s (stored s (g (store s)) f))
+        → Keeps R (change (λ w. withStore (g (w .store)) w))
     unfolding change
     k-store g h = record { run = λ s. fine (stored s (g (store s)) (h s .0)) (h s .1, tt) }

@@ -28,9 +28,10 @@ use Rattle.usb_types.specs.Numbers.{fromLittleEndian}
 use Rattle.usb_types.specs.Requests.{GetStatus, ClearFeature, SetFeature, SetAddress, SetConfiguration, ToDevice, ToPort, deviceRequest}
 use Rattle.usb_types.specs.declared.types.ErrorCode.{ErrorCode}
 use Rattle.usb_types.specs.declared.request.UsbDeviceRequest.{UsbDeviceRequest}
-use Rattle.usb_store.specs.Layout.{Places, Used, Status, ConfigurationValue, Child, Ports, emptyStore}
+use Rattle.usb_store.specs.Layout.{Places, Status, ConfigurationValue, Ports, emptyStore}
 use Rattle.usb_store.specs.Access.{byteAt}
 use Rattle.usb_store.specs.Values.{Configured}
+use Rattle.usb_sound.specs.Sound.{IsUsed, IsChild}
 use Rattle.usb_model.specs.Programs.{Ran, done, fail}
 use Rattle.usb_model.specs.World.{World, M}
 use Rattle.usb_model.specs.Features.{PORT-RESET, C-PORT-RESET, bit}
@@ -120,19 +121,14 @@ pub data EndedWell (address port : ℕ) : List Event → Type 0 where
 
 -- ---- what is claimed
 
--- "A device is a used place"
-pub record Device (s : List ℕ) (place : ℕ) : Type 0 where
-  pub inside : place < Places
-  pub used : byteAt s place Used ≡ 1
-
 pub record ShownConfigured (s : List ℕ) (place : ℕ) : Type 0 where
-  pub device : Device s place
+  pub device : IsUsed s place
   pub status : byteAt s place Status ≡ Configured
 
 pub record Stands (s : List ℕ) (hub port place : ℕ) : Type 0 where
-  pub device : Device s hub
+  pub device : IsUsed s hub
   pub low : port < Ports
-  pub child : byteAt s hub (Child port) ≡ place + 1
+  pub child : IsChild s hub port place
 
 -- "its address was set and acknowledged": SetAddress goes to address 0. `before` held just before it.
 pub data Addressed (place : ℕ) (before : List Event → Type 0) : List Event → Type 0 where

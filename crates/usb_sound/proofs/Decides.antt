@@ -36,7 +36,8 @@ front-decides s n few =
     (λ r. (((r .rest, r .root-parent), r .places), r .tree))
     (and-decides _ _
     (and-decides _ _ (and-decides _ _ (zeros-decides (drop (n * PlaceLength) s)) (λ _. eq-decides (byteAt s 0 Parent) 0))
-    (λ _. every-decides (usedSound s) (λ p. (byteAt s p Used ≡ 1) × Place s p) (λ p. and-decides _ _ (eq-decides (byteAt s p Used) 1) (λ _. place-decides s p)) 0 n))
+    (λ _. every-decides (usedSound s) (λ p. (byteAt s p Used ≡ 1) × Place s p)
+    (λ p. and-decides _ _ (eq-decides (byteAt s p Used) 1) (λ _. place-decides s p)) 0 n))
     (λ x. tree-decides s n few (λ h q l a z. x .1 h (omega arith) (omega arith) .1 .hub .no-hub z (Child q) (omega arith) (omega arith))))
 
 -- from the test to the rules

@@ -87,7 +87,9 @@ module _ (s : List ℕ) (n h q : ℕ) (seen : List ℕ) (few : n ≤ Places) (a 
     (x : childByte s h q ≢ 0) (g : Good s n h q) (new : getD seen (childByte s h q - 1) 0 ≡ 0) where
   place : (h′ q′ : ℕ) → q′ < Ports → h′ * Ports + q′ < h * Ports + q + 1
       → (h′ * Ports + q′ < h * Ports + q) ⊎ ((h′ ≡ h) × (q′ ≡ q))
-  place h′ q′ a′ l = ⊎-elim (λ y. inl y) (λ (y : h * Ports + q ≤ h′ * Ports + q′). inr (omega arith, omega arith)) (below (h′ * Ports + q′) (h * Ports + q))
+  place h′ q′ a′ l =
+      ⊎-elim (λ y. inl y) (λ (y : h * Ports + q ≤ h′ * Ports + q′). inr (omega arith, omega arith))
+      (below (h′ * Ports + q′) (h * Ports + q))
 
   same-child : (h′ q′ : ℕ) → (h′ ≡ h) × (q′ ≡ q) → childByte s h′ q′ ≡ childByte s h q
   same-child h′ q′ e = subst₂ (λ (u v : ℕ). childByte s u v ≡ childByte s h q) (sym (e .0)) (sym (e .1)) refl
@@ -318,7 +320,8 @@ module _ (s : List ℕ) (n : ℕ) (few : n ≤ Places)
   -- the last test
   seen-decides : (seen : List ℕ) → Decides (allSeen n (good seen)) ((p : ℕ) → 1 ≤ p → p < 1 + (n - 1) → getD seen p 0 ≡ 1)
   unfolding allSeen
-  seen-decides seen = every-decides (λ (p : ℕ). eqb (getD seen p 0) 1) (λ (p : ℕ). getD seen p 0 ≡ 1) (λ p. eq-decides (getD seen p 0) 1) 1 (n - 1)
+  seen-decides seen =
+      every-decides (λ (p : ℕ). eqb (getD seen p 0) 1) (λ (p : ℕ). getD seen p 0 ≡ 1) (λ p. eq-decides (getD seen p 0) 1) 1 (n - 1)
 
   tree-true : treeSound s n ≡ true → Tree s n
   unfolding treeSound allSeen

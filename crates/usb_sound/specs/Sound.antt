@@ -9,6 +9,7 @@ use Rattle.usb_store.specs.Access.{byteAt, numberAt}
 use Rattle.usb_store.specs.Values.{NoHub, WithoutDescriptor}
 use Rattle.usb_place.specs.Rules.{OneOf, speeds, statuses, errors, hubs, Zero}
 
+-- "A device is a used place"
 abbrev pub IsUsed : List ℕ → ℕ → Type 0
 IsUsed s p = (p < Places) × (byteAt s p Used ≡ 1)
 

@@ -79,7 +79,8 @@ module _ (s : List ℕ) (p f : ℕ) (vs : List ℕ) where
       same-long = bytes-long new q g n ∙ ap (λ (m : ℕ). min n (m - offset q g)) with-length ∙ sym (bytes-long s q g n)
 
       spot : (k : ℕ) → k < n → (offset p f + length vs ≤ offset q g + k) ⊎ (offset q g + k < offset p f)
-      spot k h = ⊎-elim (λ (x : offset p f + length vs ≤ offset q g). inl (omega arith)) (λ (x : offset q g + n ≤ offset p f). inr (omega arith)) a
+      spot k h =
+          ⊎-elim (λ (x : offset p f + length vs ≤ offset q g). inl (omega arith)) (λ (x : offset q g + n ≤ offset p f). inr (omega arith)) a
 
       elem : (k : ℕ) → k < length (bytesAt new q g n) → getD (bytesAt new q g n) k 0 ≡ getD (bytesAt s q g n) k 0
       elem k h =
@@ -111,7 +112,8 @@ byte-same s p f v w = rw (← add-zero (offset p f)) (elem-same s p f (v ∷ [])
 -- ---- numbers of n bytes
 
 -- a number by its lowest byte and the rest
-number-more : (s : List ℕ) (p f k n : ℕ) → offset p (f + k) < length s → numberAt s p (f + k) (suc n) ≡ byteAt s p (f + k) + 256 * numberAt s p (f + suc k) n
+number-more : (s : List ℕ) (p f k n : ℕ) → offset p (f + k) < length s
+    → numberAt s p (f + k) (suc n) ≡ byteAt s p (f + k) + 256 * numberAt s p (f + suc k) n
 unfolding bytesAt byteAt
 number-more s p f k n h =
     let next : suc (offset p (f + k)) ≡ offset p (f + suc k) = omega arith in
@@ -131,7 +133,14 @@ number-2 s p f w =
 pub number-4 : (s : List ℕ) (p f : ℕ) → Within s p f 4
     → numberAt s p f 4 ≡ byteAt s p f + byteAt s p (f + 1) * 256 + byteAt s p (f + 2) * 65536 + byteAt s p (f + 3) * 16777216
 number-4 s p f w =
-    omega (arith, number-first s p f 3 (omega arith), number-more s p f 1 2 (omega arith), number-more s p f 2 1 (omega arith), number-more s p f 3 0 (omega arith), number-none s p (f + 4))
+    omega (
+      arith,
+      number-first s p f 3 (omega arith),
+      number-more s p f 1 2 (omega arith),
+      number-more s p f 2 1 (omega arith),
+      number-more s p f 3 0 (omega arith),
+      number-none s p (f + 4),
+    )
 
 pub number-same : (s : List ℕ) (p f n v : ℕ) → Within s p f n → v < 256 ^ n → numberAt (withNumber s p f n v) p f n ≡ v
 number-same s p f n v w h =
@@ -139,5 +148,6 @@ number-same s p f n v w h =
     let e : bytesAt (withNumber s p f n v) p f (length (littleEndian n v)) ≡ littleEndian n v = bytes-same s p f (littleEndian n v) (rw long w) in
     ap fromLittleEndian (rw long at e) ∙ from-le n v h
 
-pub number-other : (s : List ℕ) (p f : ℕ) (vs : List ℕ) (q g n : ℕ) → Apart p f (length vs) q g n → numberAt (withBytes s p f vs) q g n ≡ numberAt s q g n
+pub number-other : (s : List ℕ) (p f : ℕ) (vs : List ℕ) (q g n : ℕ) → Apart p f (length vs) q g n
+    → numberAt (withBytes s p f vs) q g n ≡ numberAt s q g n
 number-other s p f vs q g n a = ap fromLittleEndian (bytes-other s p f vs q g n a)

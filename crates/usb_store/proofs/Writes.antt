@@ -27,7 +27,8 @@ write-one (x ∷ s) (suc i) v = ap (λ (l : List ℕ). x ∷ l) (write-one s i v
 write-one (x ∷ s) zero v = ap (λ (l : List ℕ). v ∷ l) (write-nil s zero)
 
 -- one element more
-pub write-more : (s : List ℕ) (i : ℕ) (vs : List ℕ) (j : ℕ) → j < length vs → set (write s i (take j vs)) (i + j) (getD vs j 0) ≡ write s i (take (suc j) vs)
+pub write-more : (s : List ℕ) (i : ℕ) (vs : List ℕ) (j : ℕ) → j < length vs
+    → set (write s i (take j vs)) (i + j) (getD vs j 0) ≡ write s i (take (suc j) vs)
 write-more [] i vs j h = refl
 write-more (x ∷ s) (suc i) vs j h = rw suc-add (ap (λ (l : List ℕ). x ∷ l) (write-more s i vs j h))
 write-more (x ∷ s) zero [] j h = absurd (omega arith)
@@ -53,7 +54,8 @@ write-other [] (x ∷ s) zero j h = refl
 write-other (v ∷ vs) (x ∷ s) zero zero h = absurd (h 0 (omega arith) (omega arith))
 write-other (v ∷ vs) (x ∷ s) zero (suc j) h = write-other vs s zero j (λ k l e. h (suc k) (omega arith) (omega arith))
 
-pub write-same : (s : List ℕ) (i : ℕ) (vs : List ℕ) (k : ℕ) → i + length vs ≤ length s → k < length vs → getD (write s i vs) (i + k) 0 ≡ getD vs k 0
+pub write-same : (s : List ℕ) (i : ℕ) (vs : List ℕ) (k : ℕ) → i + length vs ≤ length s → k < length vs
+    → getD (write s i vs) (i + k) 0 ≡ getD vs k 0
 write-same [] i [] k r h = absurd (omega arith)
 write-same [] i (v ∷ vs) k r h = absurd (omega arith)
 write-same (x ∷ s) (suc i) vs k r h = rw suc-add (write-same s i vs k (omega arith) h)
@@ -74,7 +76,8 @@ spliced (x ∷ s) zero (v ∷ vs) h =
     let deeper : take zero s ++ (vs ++ drop (zero + length vs) s) ≡ write s zero vs = spliced s zero vs (omega arith) in
     rw zero-add (ap (λ (l : List ℕ). v ∷ l) (rw zero-add at deeper))
 
-pub part-back : (s : List ℕ) (i k : ℕ) (vs : List ℕ) → length vs ≡ k → i + k ≤ length s → take i s ++ (vs ++ drop k (drop i s)) ≡ write s i vs
+pub part-back : (s : List ℕ) (i k : ℕ) (vs : List ℕ) → length vs ≡ k → i + k ≤ length s
+    → take i s ++ (vs ++ drop k (drop i s)) ≡ write s i vs
 part-back s i k vs e h = rw (drop-drop k i s, ← e) (spliced s i vs (rw e h))
 
 -- a whole list over another as long

@@ -5,7 +5,7 @@ use replays::file::Next;
 use replays::file::next_record;
 use usb_store::STORE_LEN;
 ghost use mathlib.Core.Path.{_≡_};
-ghost use Rattle.recorded.specs.Stores.{emptyStore};
+ghost use Rattle.usb_store.specs.Layout.{emptyStore};
 ghost use Rattle.vectors.specs.Counts.{SameLengths};
 
 fn write_number(before: &[u8], n: u32, after: &[u8])

@@ -15,4 +15,9 @@ judge-spec =
     (λ c κs. search needs)
     (λ c. simp (eq-eqb _ _ (c .before .before .if1 .left), sym (c .before .sound .ensures .0) ∙ not-true _ (c .if2 .taken)))
     (λ c κs. search needs)
-    (λ c. simp (eq-eqb _ _ (c .before .before .before .if1 .left), sym (c .before .before .sound .ensures .0) ∙ not-false _ (c .before .if2 .left), c .first-unused .ensures .0)))
+    (λ c. simp (
+      eq-eqb _ _ (c .before .before .before .if1 .left),
+      sym (c .before .before .sound .ensures .0)
+          ∙ not-false _ (c .before .if2 .left),
+      c .first-unused .ensures .0,
+    )))

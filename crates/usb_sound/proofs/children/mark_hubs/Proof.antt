@@ -26,7 +26,8 @@ returns c =
     let turn = inside .before in
     sym
     (turn .before .before .loop .inv .1
-    ∙ hubs-turn _ _ _ _ _ (turn .before .loop-test .taken) (turn .byte-at .ensures) _ _ _ (inside .if1 .taken) (c .before .mark-ports .ensures) (not-true _ (c .if2 .taken)) refl)
+    ∙ hubs-turn _ _ _ _ _ (turn .before .loop-test .taken) (turn .byte-at .ensures) _ _ _ (inside .if1 .taken)
+    (c .before .mark-ports .ensures) (not-true _ (c .if2 .taken)) refl)
 
 loop-again : tie.Need-loop-again Inv-loop μ-loop
 loop-again c =
@@ -34,7 +35,8 @@ loop-again c =
       search needs,
       turn .before .before .loop .inv .1
           ∙ ⊎-elim
-          (λ w. hubs-turn _ _ _ _ _ (turn .before .loop-test .taken) (turn .byte-at .ensures) _ _ _ (w .0 .taken) (w .2 .ensures) (not-false _ (w .3 .left)) (w .4))
+          (λ w. hubs-turn _ _ _ _ _ (turn .before .loop-test .taken) (turn .byte-at .ensures) _ _ _ (w .0 .taken) (w .2 .ensures)
+          (not-false _ (w .3 .left)) (w .4))
           (λ w. hubs-pass _ _ _ _ _ (turn .before .loop-test .taken) (turn .byte-at .ensures) _ (w .0 .left) (w .1)) (c .if1 .came),
     )
 
