@@ -2,13 +2,11 @@
 //! root attach of the original leaves.
 
 use reference::call::{Call, Ended, Entry};
-use reference::layout::STORE;
+use reference::layout::{LOG, STORE};
 use reference::run::run;
 use reference::script::*;
 
 use crate::aligned::Aligned;
-
-pub const LOG: usize = 65_536;
 
 /// A call and what it reads.
 pub struct Case {
@@ -27,13 +25,10 @@ enum At {
     Hub(Vec<At>),
 }
 
-/// Powered, nothing connected.
-const EMPTY: u16 = 0x100;
-
 /// The status of a port without change.
 fn status(at: &At) -> [u8; 4] {
     match at {
-        At::Nothing => port(EMPTY, 0),
+        At::Nothing => port(POWERED, 0),
         At::Keyboard | At::Hub(_) => port(HIGH, 0),
     }
 }
@@ -48,7 +43,7 @@ fn hub_with(ports: &[At]) -> Script {
 
 /// A port check that finds this.
 fn found(at: &At) -> Script {
-    let device = Script::new().gives(&port(HIGH, 1)).then(connection(HIGH));
+    let device = found_device(HIGH);
     match at {
         At::Nothing => Script::new().gives(&status(at)),
         At::Keyboard => device.then(attach(&KEYBOARD_CONFIGURATION)),

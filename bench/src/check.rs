@@ -1,16 +1,15 @@
 //! Every contestant does the same: answer, requests, log and new store are
 //! compared before anything is timed.
 
+use comparison::calls::same_bytes;
 use comparison::port::{self, Reply};
 use reference::call::{Ended, Report};
-use reference::layout::STORE;
+use reference::layout::{LOG, STORE};
 use reference::run::run;
+use reference::vectors::FILL;
 
-use crate::cases::{Case, LOG};
+use crate::cases::Case;
 use crate::contestants::{bare_once, batch, Contestant, Lent};
-
-/// What new store and log hold before a call.
-const FILL: u8 = 0xee;
 
 /// What the original left, run as the comparison runs it.
 struct Right {
@@ -42,8 +41,8 @@ fn check_port(case: &Case, right: &Right) -> Result<(), String> {
     if reply != (Reply { answer, requests }) {
         return Err(format!("the port: {reply:?}, not {:?}", right.report));
     }
-    same("the port's log", log, &right.log)?;
-    same("the port's new store", new, &right.new)
+    same_bytes("the port's log", log, &right.log)?;
+    same_bytes("the port's new store", new, &right.new)
 }
 
 /// The original as it is timed: without cuts, bare and with images.
@@ -53,20 +52,13 @@ fn check_original(case: &Case, right: &Right) -> Result<(), String> {
     if bare_once(case, &mut lent) != right.report.answer {
         return Err("the original without cuts answers otherwise".to_string());
     }
-    same("the bare log", &lent.actions, logged)?;
-    same("the bare new store", &lent.new, &right.new)?;
+    same_bytes("the bare log", &lent.actions, logged)?;
+    same_bytes("the bare new store", &lent.new, &right.new)?;
     for contestant in [Contestant::Images, Contestant::Call] {
         let mut lent = Lent::new(FILL);
         batch(contestant, case, &mut lent);
-        same("the original's log", &lent.actions, logged)?;
-        same("the original's new store", &lent.new, &right.new)?;
+        same_bytes("the original's log", &lent.actions, logged)?;
+        same_bytes("the original's new store", &lent.new, &right.new)?;
     }
     Ok(())
-}
-
-fn same(what: &str, got: &[u8], right: &[u8]) -> Result<(), String> {
-    match got == right {
-        true => Ok(()),
-        false => Err(format!("{what} differs")),
-    }
 }

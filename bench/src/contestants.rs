@@ -6,12 +6,12 @@ use std::time::{Duration, Instant};
 
 use comparison::port;
 use reference::image::Bus;
-use reference::layout::STORE;
+use reference::layout::{LOG, STORE};
 use reference::run::{enter, refusal, session, Outcomes};
 use reference::stand_ins::{begin, finish, rewind};
 
 use crate::aligned::Aligned;
-use crate::cases::{Case, LOG};
+use crate::cases::Case;
 
 /// Calls in a batch: few enough that the original's structures stay in the cache.
 pub const BATCH: usize = 4;

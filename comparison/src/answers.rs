@@ -5,6 +5,7 @@
 use reference::generator::descriptors;
 use reference::generator::prng::Prng;
 use reference::layout::ACTION;
+use reference::script::Script;
 
 /// Devices that answer without knowing which of them is asked.
 pub struct Devices {
@@ -46,9 +47,7 @@ impl Devices {
                 _ => code = self.prng.pick(&[0, 0, 0, 10, 255]),
             }
         }
-        outcomes.extend([code, error]);
-        outcomes.extend((data.len() as u16).to_le_bytes());
-        outcomes.extend(data);
+        outcomes.extend(Script::new().outcome(code, error, &data).0);
     }
 
     fn data(&mut self, setup: &[u8], asked: usize) -> Vec<u8> {

@@ -1,7 +1,7 @@
 //! One call of the port: what holds of it by document 01 alone, and what the
 //! original's report of the same call adds.
 
-use reference::call::{Call, Ended, Entry, Report};
+use reference::call::{is_stop, most_requests, Call, Ended, Entry, Report};
 use reference::layout::*;
 use reference::outside::Outside;
 use reference::rules::configuration_walk;
@@ -70,9 +70,9 @@ pub fn same_bytes(what: &str, got: &[u8], expected: &[u8]) -> Result<(), String>
     let at = got.iter().zip(expected).position(|(a, b)| a != b);
     let at = at.expect("a byte that differs");
     let (is, should) = (got[at], expected[at]);
-    let where_to = match what {
-        "the new store" => format!("place {}, byte {}", at / PLACE, at % PLACE),
-        _ => format!("action {}, byte {}", at / ACTION, at % ACTION),
+    let where_to = match what.ends_with("new store") {
+        true => format!("place {}, byte {}", at / PLACE, at % PLACE),
+        false => format!("action {}, byte {}", at / ACTION, at % ACTION),
     };
     Err(format!(
         "{what}: {where_to} is {is:#04x}, not {should:#04x}"
@@ -105,7 +105,7 @@ fn told_by_cut(asked: &Asked, original: &Original, case: Outside) -> Option<i32>
                 action[1] == place(asked.old, hub)[NUMBER] && usize::from(action[12]) == port + 1;
             is_its_own.then(|| result(outcome))
         }
-        (Entry::RootAttach, _) if is_walk(case) && !is_used(original.new, 1) => {
+        (Entry::RootAttach, _) if Outside::WALK.contains(&case) && !is_used(original.new, 1) => {
             let most = usize::from(u16::from_le_bytes([action[14], action[15]]));
             let data = &outcome[4..];
             let descriptors = &data[..most.min(data.len())];
@@ -114,24 +114,6 @@ fn told_by_cut(asked: &Asked, original: &Original, case: Outside) -> Option<i32>
         }
         _ => None,
     }
-}
-
-fn is_walk(case: Outside) -> bool {
-    use Outside::*;
-    matches!(
-        case,
-        HeaderType
-            | InterfaceClass
-            | EmptyConfiguration
-            | HeaderPastEnd
-            | InterfaceCutOff
-            | EndpointCutOff
-            | InterfaceLengthZero
-            | EndpointLengthZero
-            | AlternateEndpoint
-            | InterfaceNumber
-            | SeventeenthEndpoint
-    )
 }
 
 /// A transfer's result: the submit code, or -8 for error 31, or -4.
@@ -155,7 +137,7 @@ fn ends_at_cut(reply: &Reply, lent: &Lent, original: &Original, answer: i32) -> 
 
 /// What document 01 says of every call that is not refused at entry.
 pub fn accepted(call: Call, reply: &Reply, lent: &Lent) -> Result<(), String> {
-    if !matches!(reply.answer, -11..=0 | -15..=-13) {
+    if !is_stop(reply.answer) && !(-11..=0).contains(&reply.answer) {
         return Err(format!("{} is no answer of an accepted call", reply.answer));
     }
     let store = lent.new_store();
@@ -169,7 +151,7 @@ pub fn accepted(call: Call, reply: &Reply, lent: &Lent) -> Result<(), String> {
             reply.requests
         ));
     }
-    if call.entry == Entry::Scan && !matches!(reply.answer, 0 | -15..=-13) {
+    if call.entry == Entry::Scan && !is_stop(reply.answer) && reply.answer != 0 {
         return Err(format!("a scan answers {}", reply.answer));
     }
     if call.entry == Entry::RootAttach && requests > most_requests(store) {
@@ -191,13 +173,6 @@ pub fn refused(reply: &Reply, lent: &Lent) -> Result<(), String> {
 /// Whether the new store is as it was before the call.
 pub fn is_untouched(lent: &Lent) -> bool {
     lent.new_store().iter().all(|&byte| byte == FILL)
-}
-
-/// 8·d + 444·h.
-pub fn most_requests(store: &[u8]) -> u64 {
-    let devices = (0..PLACES).filter(|&at| is_used(store, at)).count() as u64;
-    let hubs = (0..PLACES).filter(|&at| is_hub(store, at)).count() as u64;
-    8 * devices + 444 * hubs
 }
 
 /// The actions at the front of a log that was filled with `FILL`, in bytes.

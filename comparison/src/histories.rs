@@ -8,7 +8,7 @@ use std::cmp::Reverse;
 use std::collections::BTreeMap;
 use std::rc::Rc;
 
-use reference::call::{Call, Entry};
+use reference::call::{is_stop, Call, Entry};
 use reference::generator::prng::Prng;
 use reference::layout::*;
 use reference::outside::Outside;
@@ -19,7 +19,6 @@ use crate::calls::*;
 use crate::lent::{Asked, Lent};
 use crate::port::Reply;
 
-const LOG: usize = 65_536;
 /// Outcomes added to one call, at most.
 const MORE_OUTCOMES: usize = 250;
 
@@ -44,10 +43,10 @@ pub struct Counts {
     pub shorter_logs: u64,
 }
 
-pub struct Histories {
+struct Histories {
     lent: Lent,
     prng: Prng,
-    pub counts: Counts,
+    counts: Counts,
 }
 
 /// A call of a history, in words, for one who has to repeat it.
@@ -135,8 +134,8 @@ impl Histories {
 
     /// The store that the next call starts from, where this one ended.
     fn store_left(&self, reply: &Reply) -> Option<Vec<u8>> {
-        let is_stopped = (-15..=-13).contains(&reply.answer);
-        (!is_stopped && !is_untouched(&self.lent)).then(|| self.lent.new_store().to_vec())
+        let has_ended = !is_stop(reply.answer) && !is_untouched(&self.lent);
+        has_ended.then(|| self.lent.new_store().to_vec())
     }
 
     /// Calls on a store that the port left, with other devices.
@@ -261,13 +260,7 @@ mod with_original {
             let mut log = vec![FILL; LOG];
             let asked = Outcomes::Asked(devices.clone());
             let (report, outcomes) = run_with(call, store, &mut new, asked, &mut log);
-            let asked = Asked {
-                call,
-                old: store,
-                new_length: STORE,
-                outcomes: &outcomes,
-                log_capacity: LOG,
-            };
+            let asked = Asked::usual(call, store, &outcomes);
             let original = Original {
                 report: &report,
                 new: &new,
@@ -307,20 +300,11 @@ impl Histories {
         devices: &Rc<RefCell<Devices>>,
     ) -> Result<Option<Vec<u8>>, String> {
         let mut outcomes = Vec::new();
-        let asked = Asked {
-            call,
-            old: store,
-            new_length: STORE,
-            outcomes: &[],
-            log_capacity: LOG,
-        };
+        let asked = Asked::usual(call, store, &[]);
         let reply = self
             .goes_on(&asked, &mut outcomes, &mut devices.borrow_mut())
             .map_err(|text| format!("{text}: {}", words(&asked)))?;
-        let asked = Asked {
-            outcomes: &outcomes,
-            ..asked
-        };
+        let asked = Asked::usual(call, store, &outcomes);
         self.count(&asked, &reply, is_untouched(&self.lent));
         let left = self.store_left(&reply);
         if left.is_some() && self.prng.chance(125) {
@@ -339,7 +323,7 @@ fn any_call(prng: &mut Prng, store: &[u8]) -> Call {
     if !is_used(store, 0) {
         return Call::new(Entry::RootAttach, prng.pick(&[0, 0, 1, 2, 3, 4]), 0);
     }
-    let hubs: Vec<usize> = (0..PLACES).filter(|&at| is_hub(store, at)).collect();
+    let hubs: Vec<usize> = hubs(store).collect();
     let hub = match hubs.is_empty() || prng.chance(20) {
         true => prng.pick(&[0, 1, 31, 32, 256]),
         false => prng.pick(&hubs),

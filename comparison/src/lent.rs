@@ -4,6 +4,7 @@
 use std::hint::black_box;
 
 use reference::call::Call;
+use reference::layout::{LOG, STORE};
 
 use crate::port::{self, Reply};
 
@@ -17,6 +18,19 @@ pub struct Asked<'a> {
     pub new_length: usize,
     pub outcomes: &'a [u8],
     pub log_capacity: usize,
+}
+
+impl<'a> Asked<'a> {
+    /// With a whole new store and the usual log.
+    pub fn usual(call: Call, old: &'a [u8], outcomes: &'a [u8]) -> Asked<'a> {
+        Asked {
+            call,
+            old,
+            new_length: STORE,
+            outcomes,
+            log_capacity: LOG,
+        }
+    }
 }
 
 /// The buffers; they are used again from call to call.

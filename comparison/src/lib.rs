@@ -7,3 +7,4 @@ pub mod histories;
 pub mod lent;
 pub mod original;
 pub mod port;
+pub mod program;

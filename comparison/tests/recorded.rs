@@ -9,11 +9,7 @@ use reference::vectors::{recorded_calls, recorded_walks, RecordedCall, FILL};
 
 /// The port's reply to a recorded call on the store that its sequence has.
 fn replay(lent: &mut Lent, store: &[u8], recorded: &RecordedCall) -> Reply {
-    let mut old = store.to_vec();
-    old.resize(recorded.old_length as usize, 0);
-    for &(offset, byte) in &recorded.edits {
-        old[offset as usize] = byte;
-    }
+    let old = recorded.old(store);
     let asked = Asked {
         call: recorded.call,
         old: &old,

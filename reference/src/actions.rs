@@ -1,9 +1,33 @@
-//! What a logged action means, in the words of USB 2.0.
+//! Logged actions: some written by hand for tests, and what an action means, in
+//! the words of USB 2.0.
 
-pub const ACTION_LENGTH: usize = 16;
+use crate::layout::ACTION;
+
+pub type Action = [u8; ACTION];
+pub type Setup = [u8; 8];
+
+pub fn wait(microseconds: u32) -> Action {
+    let [a, b, c, d] = microseconds.to_le_bytes();
+    [2, 0, 0, 0, 0, 0, 0, 0, a, b, c, d, 0, 0, 0, 0]
+}
+
+pub const FRAME_INTERVAL: Action = [3, 0, 0, 0, 0, 0, 0, 0, 0, 0, 0, 0, 0, 0, 0, 0];
+
+/// A port's requests; ports are counted from 0 and sent counted from 1.
+pub fn status_of(port: u8) -> Setup {
+    [0xa3, 0, 0, 0, port + 1, 0, 4, 0]
+}
+
+pub fn set(feature: u8, port: u8) -> Setup {
+    [0x23, 3, feature, 0, port + 1, 0, 0, 0]
+}
+
+pub fn clear(feature: u8, port: u8) -> Setup {
+    [0x23, 1, feature, 0, port + 1, 0, 0, 0]
+}
 
 /// One line: "to 3, full speed, packets of 64: GetStatus of port 2, 4 bytes".
-pub fn meaning(action: &[u8; ACTION_LENGTH]) -> String {
+pub fn meaning(action: &Action) -> String {
     let [kind, address, _, speed, size, _, _, _, setup @ ..] = *action;
     match kind {
         1 => {
@@ -29,7 +53,7 @@ fn name(names: &[&str], number: u8) -> String {
 }
 
 /// The request of a setup packet, USB 2.0 tables 9-3 and 11-15.
-fn request(setup: &[u8; 8]) -> String {
+fn request(setup: &Setup) -> String {
     let word = |at: usize| u16::from_le_bytes([setup[at], setup[at + 1]]);
     let (value, index, length) = (word(2), word(4), word(6));
     match (setup[0], setup[1]) {

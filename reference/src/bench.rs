@@ -3,6 +3,8 @@
 
 use crate::layout::RECORD_LENGTH;
 use crate::rules;
+use crate::script::{BARE_CONFIGURATION, ENDPOINT};
+use crate::vectors::FILL;
 
 pub struct Line {
     pub name: &'static str,
@@ -21,18 +23,18 @@ fn line(name: &'static str, expected: &str, got: String) -> Line {
 
 /// Walk lines of the table: name, descriptors, answer and what is stored.
 pub fn walk_table() -> Vec<(&'static str, Vec<u8>, &'static str)> {
-    let bare = vec![9, 2, 9, 0, 1, 1, 0, 0x80, 0x32];
+    let bare = BARE_CONFIGURATION;
     let followed = |more: &[u8]| [&bare[..], more].concat();
     let interface = |number: u8| followed(&[9, 4, number, 0, 0, 3, 0, 0, 0]);
     vec![
         (
             "walk of a bare configuration",
-            bare.clone(),
+            bare.to_vec(),
             "0, stored: none",
         ),
         (
             "walk, an endpoint with no interface",
-            followed(&[7, 5, 0x81, 3, 8, 0, 10]),
+            followed(&ENDPOINT),
             "-4, stored: none",
         ),
         ("walk, first interface 7", interface(7), "0, stored: 7"),
@@ -41,13 +43,13 @@ pub fn walk_table() -> Vec<(&'static str, Vec<u8>, &'static str)> {
     ]
 }
 
-/// Answer and stored interfaces of a walk over a record of 0xEE.
+/// Answer and stored interfaces of a walk over a record of `FILL`.
 fn walked(answer: i32, record: &[u8]) -> String {
     let stored: Vec<String> = (0..8)
-        .filter(|number| record[number * 9..][..9] != [0xee; 9])
+        .filter(|number| record[number * 9..][..9] != [FILL; 9])
         .map(|number| number.to_string())
         .collect();
-    let endpoints = record[72..].iter().any(|&byte| byte != 0xee);
+    let endpoints = record[72..].iter().any(|&byte| byte != FILL);
     let stored = if stored.is_empty() {
         "none".to_string()
     } else {
@@ -62,7 +64,7 @@ fn walked(answer: i32, record: &[u8]) -> String {
 /// The walk lines by document 01's rules; they need no original.
 pub fn rule_lines() -> Vec<Line> {
     let by_rules = |(name, descriptors, expected): (&'static str, Vec<u8>, &str)| {
-        let mut record = [0xee; RECORD_LENGTH];
+        let mut record = [FILL; RECORD_LENGTH];
         let answer = rules::configuration_walk(&descriptors, &mut record);
         line(name, expected, walked(answer, &record))
     };
@@ -88,8 +90,8 @@ mod on_the_original {
     }
 
     fn calls(call: Call, old: &[u8], outcomes: Script) -> Run {
-        let mut store = vec![0xee; STORE];
-        let mut log = vec![0xee; 65_536];
+        let mut store = vec![FILL; STORE];
+        let mut log = vec![FILL; LOG];
         let report = run(call, old, &mut store, &outcomes.0, &mut log);
         assert_eq!(
             report.ended,
@@ -127,7 +129,7 @@ mod on_the_original {
         let logged = empty
             .log
             .iter()
-            .rposition(|&byte| byte != 0xee)
+            .rposition(|&byte| byte != FILL)
             .map_or(0, |at| at + 1);
         let answer = |code, error| {
             root_attach(Script::new().outcome(code, error, &[]))
@@ -153,7 +155,7 @@ mod on_the_original {
 
     /// Microseconds of the wait after the first port's power.
     fn power_wait(delay: u8) -> String {
-        let run = root_attach(hub_attach(1, delay).gives(&port(0x100, 0)));
+        let run = root_attach(hub_attach(1, delay).gives(&port(POWERED, 0)));
         let mut actions = run.log.chunks(ACTION);
         actions
             .find(|action| action[8..12] == [0x23, 3, 8, 0])
@@ -164,13 +166,13 @@ mod on_the_original {
     }
 
     fn children(ports: u8) -> String {
-        let run = root_attach(hub_attach(ports, 1).gives_times(10, &port(0x100, 0)));
+        let run = root_attach(hub_attach(ports, 1).gives_times(10, &port(POWERED, 0)));
         assert_eq!(run.answer, 0);
         run.store[MAX_CHILDREN].to_string()
     }
 
     fn hub_lines() -> Vec<Line> {
-        let powered = root_attach(hub_attach(1, 1).gives(&port(0x100, 0)));
+        let powered = root_attach(hub_attach(1, 1).gives(&port(POWERED, 0)));
         let power = powered
             .log
             .chunks(ACTION)
@@ -178,7 +180,7 @@ mod on_the_original {
         let status = calls(
             Call::new(Entry::PortCheck, 0, 9),
             &powered.store,
-            Script::new().gives(&port(0x100, 0)),
+            Script::new().gives(&port(POWERED, 0)),
         );
         vec![
             line("PowerGoodDelay 0", "100000", power_wait(0)),
@@ -200,7 +202,7 @@ mod on_the_original {
     }
 
     fn walk_line((name, descriptors, expected): (&'static str, Vec<u8>, &'static str)) -> Line {
-        let mut record = [0xee; RECORD_LENGTH];
+        let mut record = [FILL; RECORD_LENGTH];
         let (answer, ended) = run_walk(&descriptors, &mut record);
         let got = (ended == Ended::Inside).then(|| walked(answer, &record));
         Line {
@@ -213,26 +215,21 @@ mod on_the_original {
     fn child_reset_lines() -> Vec<Line> {
         let root = root_attach(root_with_keyboard(1));
         assert_eq!(root.answer, 0);
-        let reset = |reads: Script| {
-            let outcomes = Script::new().done_times(2).then(reads).done();
-            let run = calls(Call::new(Entry::ChildReset, 0, 1), &root.store, outcomes);
+        let reset = |last| {
+            let call = Call::new(Entry::ChildReset, 0, 1);
+            let run = calls(call, &root.store, late_reset(last));
             format!("{}, {} requests", run.answer, run.requests)
         };
-        let not_yet = port(0x111, 0);
-        let last = Script::new()
-            .gives_times(20, &not_yet)
-            .gives(&port(HIGH, 0x10));
-        let never = Script::new().gives_times(21, &not_yet);
         vec![
             line(
                 "child reset, only read 21 shows the change",
                 "0, 24 requests",
-                reset(last),
+                reset(port(HIGH, 0x10)),
             ),
             line(
                 "child reset, no read shows the change",
                 "-8, 24 requests",
-                reset(never),
+                reset(port(0x111, 0)),
             ),
         ]
     }

@@ -1,5 +1,6 @@
 //! Entry points, calls and what comes back.
 
+use crate::layout::{devices, hubs};
 use crate::outside::Outside;
 
 #[derive(Clone, Copy, Debug, PartialEq, Eq, PartialOrd, Ord, Hash)]
@@ -31,6 +32,19 @@ impl Entry {
         Entry::RetriedReset,
         Entry::ConnectionChange,
     ];
+
+    pub const WITH_PORT: [Entry; 3] = [
+        Entry::PortCheck,
+        Entry::RetriedReset,
+        Entry::ConnectionChange,
+    ];
+
+    pub const WITH_CHILD: [Entry; 2] = [Entry::ChildReset, Entry::ChildCheck];
+
+    /// Every entry point that takes a hub.
+    pub fn with_hub() -> impl Iterator<Item = Entry> {
+        Entry::ALL.into_iter().skip(1)
+    }
 }
 
 /// An entry point and its numbers; a number that it doesn't take is 0.
@@ -74,6 +88,16 @@ pub struct Report {
 impl Report {
     /// Whether the next call starts from the new store.
     pub fn carries(&self) -> bool {
-        !self.refused && self.ended == Ended::Inside && !(-15..=-13).contains(&self.answer)
+        !self.refused && self.ended == Ended::Inside && !is_stop(self.answer)
     }
+}
+
+/// Whether the whole call stopped and is to be repeated from the old store.
+pub fn is_stop(answer: i32) -> bool {
+    (-15..=-13).contains(&answer)
+}
+
+/// 8·d + 444·h: the most requests of a call that leaves this store.
+pub fn most_requests(store: &[u8]) -> u64 {
+    8 * devices(store).count() as u64 + 444 * hubs(store).count() as u64
 }

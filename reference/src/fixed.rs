@@ -7,18 +7,7 @@ use crate::layout::*;
 use crate::script::*;
 use crate::vectors::RecordedCall;
 
-const LOG: u32 = 1024;
-const WITH_PORT: [Entry; 3] = [
-    Entry::PortCheck,
-    Entry::RetriedReset,
-    Entry::ConnectionChange,
-];
-const WITH_CHILD: [Entry; 2] = [Entry::ChildReset, Entry::ChildCheck];
-
-/// Every entry point that takes a hub.
-fn others() -> impl Iterator<Item = Entry> {
-    Entry::ALL.into_iter().skip(1)
-}
+const SHORT_LOG: u32 = 1024;
 
 /// A call without outcomes on whole stores; sums and requests are left open.
 fn call(entry: Entry, first: u32, second: u32, answer: i32) -> RecordedCall {
@@ -28,7 +17,7 @@ fn call(entry: Entry, first: u32, second: u32, answer: i32) -> RecordedCall {
         call: Call::new(entry, first, second),
         old_length: STORE as u32,
         new_length: STORE as u32,
-        log_capacity: LOG,
+        log_capacity: SHORT_LOG,
         answer,
         requests: 0,
         log_sum: 0,
@@ -83,7 +72,7 @@ fn on_the_empty_store() -> Vec<RecordedCall> {
         root(4, -2).edited(&[(0, 2)]),
         root(0, -16).edited(&[(STORE - 1, 1)]),
     ];
-    calls.extend(others().map(|entry| call(entry, 0, 0, -2)));
+    calls.extend(Entry::with_hub().map(|entry| call(entry, 0, 0, -2)));
     calls
 }
 
@@ -122,15 +111,15 @@ fn on_root_and_keyboard() -> Vec<RecordedCall> {
         root(3, -16).edited(damage),
         root(4, -2).edited(damage),
     ];
-    for entry in others() {
+    for entry in Entry::with_hub() {
         calls.extend([1, 2, 31, 32, 99, 256, 65_536].map(|hub| call(entry, hub, 0, -2)));
         calls.push(call(entry, 99, 99, -16).edited(damage));
     }
-    for entry in WITH_PORT {
+    for entry in Entry::WITH_PORT {
         calls.extend([10, 11, 255, 256, 65_536].map(|port| call(entry, 0, port, -2)));
         calls.extend([1, 9].map(|port| call(entry, 0, port, -14)));
     }
-    for entry in WITH_CHILD {
+    for entry in Entry::WITH_CHILD {
         // the last one is used, and the Rust's own -2
         calls.extend([2, 31, 32, 99, 256, 65_536, 0].map(|child| call(entry, 0, child, -2)));
         calls.push(call(entry, 0, 1, -14));
@@ -180,24 +169,17 @@ fn damages() -> Vec<Vec<(usize, u8)>> {
 
 /// The resets of the bench table, and the retried reset's tenth reads.
 fn resets() -> Vec<RecordedCall> {
-    let child = |script: Script, answer| {
-        let script = Script::new().done_times(2).then(script).done();
-        call(Entry::ChildReset, 0, 1, answer).given(script)
-    };
+    let child = |last, answer| call(Entry::ChildReset, 0, 1, answer).given(late_reset(last));
     let not_yet = port(0x111, 0);
-    let last = Script::new()
-        .gives_times(20, &not_yet)
-        .gives(&port(HIGH, 0x10));
-    let never = Script::new().gives_times(21, &not_yet);
     let tenth = Script::new()
         .done()
         .gives_times(9, &not_yet)
-        .gives(&port(0x100, 0x11));
+        .gives(&port(POWERED, 0x11));
     let thrice = tenth.clone().then(tenth.clone()).then(tenth).done_times(2);
     let retried = call(Entry::RetriedReset, 0, 1, 0).given(thrice);
     vec![
-        child(last, 0),
-        child(never, -8),
+        child(port(HIGH, 0x10), 0),
+        child(not_yet, -8),
         RecordedCall {
             log_capacity: 4096,
             ..retried
@@ -208,7 +190,7 @@ fn resets() -> Vec<RecordedCall> {
 /// Walks with their record's length and their answer.
 pub fn walks() -> Vec<(Vec<u8>, usize, i32)> {
     let filled = |length: usize| {
-        let mut descriptors = vec![9, 2, 0, 0, 1, 1, 0, 0x80, 50];
+        let mut descriptors = HEAD.to_vec();
         descriptors.resize(length, 3); // type 3, 3 bytes each
         descriptors
     };
@@ -226,21 +208,15 @@ pub fn walks() -> Vec<(Vec<u8>, usize, i32)> {
         (KEYBOARD_CONFIGURATION.to_vec(), RECORD_LENGTH, 0),
     ];
     for (count, endpoints, answer) in [(0, 1, -4), (1, 2, -4), (16, 16, 0), (16, 17, -4)] {
-        let mut descriptors = vec![9, 2, 0, 0, 1, 1, 0, 0x80, 50, 9, 4, 7, 0, count, 3, 0, 0, 0];
-        descriptors.extend([7, 5, 0x81, 3, 8, 0, 10].repeat(endpoints));
+        let mut descriptors = [HEAD, [9, 4, 7, 0, count, 3, 0, 0, 0]].concat();
+        descriptors.extend(ENDPOINT.repeat(endpoints));
         walks.push((descriptors, RECORD_LENGTH, answer));
     }
-    let bare = vec![9, 2, 9, 0, 1, 1, 0, 0x80, 0x32];
-    walks.push((
-        [&bare[..], &[7, 5, 0x81, 3, 8, 0, 10]].concat(),
-        RECORD_LENGTH,
-        -4,
-    ));
-    walks.push((
-        [&bare[..], &[9, 4, 8, 0, 0, 3, 0, 0, 0]].concat(),
-        RECORD_LENGTH,
-        0,
-    ));
-    walks.push((bare, RECORD_LENGTH, 0));
+    let bare = BARE_CONFIGURATION;
+    let endpoint = [&bare[..], &ENDPOINT].concat();
+    let interface = [bare, [9, 4, 8, 0, 0, 3, 0, 0, 0]].concat();
+    walks.push((endpoint, RECORD_LENGTH, -4));
+    walks.push((interface, RECORD_LENGTH, 0));
+    walks.push((bare.to_vec(), RECORD_LENGTH, 0));
     walks
 }

@@ -55,10 +55,10 @@ impl Bus {
     /// The same, of a store whose descriptors have listed enum bytes.
     pub fn from_listed(store: &[u8]) -> Bus {
         let bus = Bus::empty();
-        for at in (0..PLACES).filter(|&at| is_used(store, at)) {
+        for at in devices(store) {
             bus.add(at, place(store, at));
         }
-        for at in (0..PLACES).filter(|&at| is_used(store, at)) {
+        for at in devices(store) {
             bus.link(at, place(store, at));
         }
         bus

@@ -38,6 +38,9 @@ pub const INTERFACES_LENGTH: usize = INTERFACES * INTERFACE_LENGTH;
 
 pub const ACTION: usize = 16;
 
+/// The log that a call is usually lent: 4,096 actions.
+pub const LOG: usize = 65_536;
+
 /// The bytes of one place.
 pub fn place(store: &[u8], place: usize) -> &[u8] {
     &store[place * PLACE..][..PLACE]
@@ -54,6 +57,16 @@ pub fn is_used(store: &[u8], at: usize) -> bool {
 
 pub fn is_hub(store: &[u8], at: usize) -> bool {
     is_used(store, at) && place(store, at)[HUB] != 0
+}
+
+/// The places that are used.
+pub fn devices(store: &[u8]) -> impl Iterator<Item = usize> + '_ {
+    (0..PLACES).filter(|&at| is_used(store, at))
+}
+
+/// The places of hubs.
+pub fn hubs(store: &[u8]) -> impl Iterator<Item = usize> + '_ {
+    (0..PLACES).filter(|&at| is_hub(store, at))
 }
 
 /// A four-byte field of a place.

@@ -8,9 +8,6 @@ use crate::script::*;
 /// Connected, enabled, powered, full speed.
 const FULL: u16 = 0x103;
 
-/// Powered, nothing connected.
-const EMPTY: u16 = 0x100;
-
 /// An instrument's device descriptor, with the product's number.
 fn instrument_device(product: u8) -> [u8; 18] {
     let mut device = DEVICE;
@@ -29,29 +26,19 @@ const INSTRUMENT_CONFIGURATION: [u8; 32] = [
 
 /// A port check that finds nothing new.
 fn empty_port() -> Script {
-    Script::new().gives(&port(EMPTY, 0))
-}
-
-/// A port check that finds a device and begins its attach.
-fn found(status: u16) -> Script {
-    Script::new()
-        .gives(&port(status, 1))
-        .then(connection(status))
+    Script::new().gives(&port(POWERED, 0))
 }
 
 fn instrument(product: u8) -> Script {
     let device = instrument_device(product);
-    found(FULL)
-        .gives(&device)
-        .done()
-        .gives(&device)
-        .gives(&INSTRUMENT_CONFIGURATION[..9])
-        .gives(&INSTRUMENT_CONFIGURATION)
+    found_device(FULL)
+        .device_reads(&device)
+        .configuration_reads(&INSTRUMENT_CONFIGURATION)
         .done()
 }
 
 fn hub_with_instrument() -> Script {
-    found(HIGH)
+    found_device(HIGH)
         .then(hub_attach(2, 50))
         .then(instrument(2))
         .then(empty_port())

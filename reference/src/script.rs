@@ -38,6 +38,16 @@ impl Script {
         (0..times).fold(self, |script, _| script.gives(data))
     }
 
+    /// Both reads of a device descriptor at high speed, SetAddress between them.
+    pub fn device_reads(self, device: &[u8]) -> Script {
+        self.gives(device).done().gives(device)
+    }
+
+    /// Both reads of a configuration: its first 9 bytes, and all of it.
+    pub fn configuration_reads(self, configuration: &[u8]) -> Script {
+        self.gives(&configuration[..9]).gives(configuration)
+    }
+
     pub fn then(mut self, other: Script) -> Script {
         self.0.extend(other.0);
         self
@@ -64,6 +74,21 @@ pub const KEYBOARD_CONFIGURATION: [u8; 34] = [
     7, 5, 0x81, 3, 8, 0, 10, // endpoint 1 in
 ];
 
+/// A configuration for the walk alone, which does not look at its total length.
+pub const HEAD: [u8; 9] = [9, 2, 0, 0, 1, 1, 0, 0x80, 50];
+
+/// A configuration with nothing in it.
+pub const BARE_CONFIGURATION: [u8; 9] = [9, 2, 9, 0, 1, 1, 0, 0x80, 50];
+
+/// A configuration of value 5 that begins with an endpoint.
+pub const ENDPOINT_FIRST: [u8; 16] = [9, 2, 16, 0, 1, 5, 0, 0x80, 50, 7, 5, 0x81, 3, 8, 0, 10];
+
+/// Interface 0 of class 3, which has one endpoint.
+pub const INTERFACE: [u8; 9] = [9, 4, 0, 0, 1, 3, 0, 0, 0];
+
+/// Endpoint 1 in, interrupt.
+pub const ENDPOINT: [u8; 7] = [7, 5, 0x81, 3, 8, 0, 10];
+
 /// A hub descriptor of 9 bytes.
 pub fn hub_descriptor(ports: u8, power_good_delay: u8) -> [u8; 9] {
     [9, 41, ports, 0, 0, power_good_delay, 0, 0, 0xff]
@@ -76,24 +101,32 @@ pub fn port(status: u16, change: u16) -> [u8; 4] {
     [a, b, c, d]
 }
 
+/// Powered, nothing connected.
+pub const POWERED: u16 = 0x100;
+
+/// Connected, enabled, powered, high speed.
+pub const HIGH: u16 = 0x503;
+
 /// An attach at high speed, up to the acknowledged SetConfiguration.
 pub fn attach(configuration: &[u8]) -> Script {
     Script::new()
-        .gives(&DEVICE)
-        .done()
-        .gives(&DEVICE)
-        .gives(&configuration[..9])
-        .gives(configuration)
+        .device_reads(&DEVICE)
+        .configuration_reads(configuration)
         .done()
 }
 
-/// A hub's attach up to the status read after its ports were powered.
-pub fn hub_attach(ports: u8, power_good_delay: u8) -> Script {
+/// A hub's attach up to the status read before its ports are powered.
+pub fn hub_before_power(ports: u8, power_good_delay: u8) -> Script {
     let descriptor = hub_descriptor(ports, power_good_delay);
     attach(&HUB_CONFIGURATION)
         .gives(&descriptor[..2])
         .gives(&descriptor)
         .gives(&[0; 4])
+}
+
+/// A hub's attach up to the status read after its ports were powered.
+pub fn hub_attach(ports: u8, power_good_delay: u8) -> Script {
+    hub_before_power(ports, power_good_delay)
         .done_times(usize::from(ports.min(10)))
         .gives(&[0; 4])
 }
@@ -116,14 +149,26 @@ pub fn connection(status: u16) -> Script {
     connection_reset(status).gives(&port(status, 0))
 }
 
-/// Connected, enabled, powered, high speed.
-pub const HIGH: u16 = 0x503;
+/// A port check that finds a device, up to the status read after its allocation.
+pub fn found_device(status: u16) -> Script {
+    Script::new()
+        .gives(&port(status, 1))
+        .then(connection(status))
+}
+
+/// A child reset of 21 status reads, the last of which gives this.
+pub fn late_reset(last: [u8; 4]) -> Script {
+    Script::new()
+        .done_times(2)
+        .gives_times(20, &port(0x111, 0))
+        .gives(&last)
+        .done()
+}
 
 /// A root hub of `ports` ports with a keyboard on port 0, all else empty.
 pub fn root_with_keyboard(ports: u8) -> Script {
     hub_attach(ports, 1)
-        .gives(&port(HIGH, 1))
-        .then(connection(HIGH))
+        .then(found_device(HIGH))
         .then(attach(&KEYBOARD_CONFIGURATION))
-        .gives_times(usize::from(ports) - 1, &port(0x100, 0))
+        .gives_times(usize::from(ports) - 1, &port(POWERED, 0))
 }

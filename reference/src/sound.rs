@@ -15,8 +15,7 @@ fn used_places(store: &[u8]) -> bool {
 }
 
 fn fields(store: &[u8]) -> bool {
-    let mut used = (0..PLACES).filter(|&at| is_used(store, at));
-    used.all(|at| place_fields(at, place(store, at)))
+    devices(store).all(|at| place_fields(at, place(store, at)))
 }
 
 /// Speed, status, error and hub hold listed values, number is 0 or place + 1,
@@ -44,7 +43,7 @@ fn place_fields(at: usize, place: &[u8]) -> bool {
 /// port; the root is nobody's child and has no parent.
 fn tree(store: &[u8]) -> bool {
     let mut standing = [None; PLACES];
-    for hub in (0..PLACES).filter(|&at| is_used(store, at)) {
+    for hub in devices(store) {
         for port in 0..PORTS {
             let child = usize::from(place(store, hub)[CHILDREN + port]);
             if child == 0 {
@@ -57,8 +56,7 @@ fn tree(store: &[u8]) -> bool {
             standing[child] = Some((hub, port));
         }
     }
-    let mut used = (0..PLACES).filter(|&at| is_used(store, at));
-    used.all(|at| has_its_parent(at, place(store, at), standing[at]))
+    devices(store).all(|at| has_its_parent(at, place(store, at), standing[at]))
 }
 
 fn has_its_parent(at: usize, place: &[u8], standing: Option<(usize, usize)>) -> bool {

@@ -49,6 +49,15 @@ pub fn recorded_walks() -> Vec<RecordedWalk> {
     all_of("walks.bin", RecordedWalk::read)
 }
 
+/// Cuts an old store to this length, or adds zeros up to it, and puts these
+/// bytes at their offsets.
+pub fn edit(old: &mut Vec<u8>, length: usize, edits: &[(u32, u8)]) {
+    old.resize(length, 0);
+    for &(offset, byte) in edits {
+        old[offset as usize] = byte;
+    }
+}
+
 fn all_of<T>(file: &str, read: fn(&mut Reader) -> T) -> Vec<T> {
     let bytes = std::fs::read(folder().join(file)).expect(file);
     let mut reader = Reader(&bytes);
@@ -60,6 +69,13 @@ fn all_of<T>(file: &str, read: fn(&mut Reader) -> T) -> Vec<T> {
 }
 
 impl RecordedCall {
+    /// Its old store, of the one that its sequence has.
+    pub fn old(&self, store: &[u8]) -> Vec<u8> {
+        let mut old = store.to_vec();
+        edit(&mut old, self.old_length as usize, &self.edits);
+        old
+    }
+
     pub fn write(&self, to: &mut Vec<u8>) {
         let entry = Entry::ALL
             .iter()
@@ -138,7 +154,7 @@ impl RecordedWalk {
 pub struct Reader<'a>(pub &'a [u8]);
 
 impl<'a> Reader<'a> {
-    pub fn is_done(&self) -> bool {
+    fn is_done(&self) -> bool {
         self.0.is_empty()
     }
 
@@ -187,11 +203,7 @@ mod on_the_original {
             if asked.starts {
                 self.store.fill(0);
             }
-            let mut old = self.store.clone();
-            old.resize(asked.old_length as usize, 0);
-            for &(offset, byte) in &asked.edits {
-                old[offset as usize] = byte;
-            }
+            let old = asked.old(&self.store);
             let mut new = vec![FILL; asked.new_length as usize];
             let mut log = vec![FILL; asked.log_capacity as usize];
             let report = run(asked.call, &old, &mut new, &asked.outcomes, &mut log);

@@ -44,8 +44,7 @@ fn the_other_classes_attach_well_and_make_no_hub() {
 fn a_child_reset_tests_the_port_counted_from_0() {
     let script = hub_attach(2, 1)
         .gives(&port(POWERED, 0))
-        .gives(&port(HIGH, 1))
-        .then(connection(HIGH))
+        .then(found_device(HIGH))
         .then(attach(&KEYBOARD_CONFIGURATION));
     let old = root_attach(0, script).new;
     assert_eq!((old[CHILDREN + 1], old[MAX_CHILDREN]), (2, 2));

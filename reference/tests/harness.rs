@@ -7,7 +7,7 @@ use common::*;
 use std::cell::RefCell;
 use std::rc::Rc;
 
-use reference::call::{Call, Ended, Entry};
+use reference::call::{most_requests, Call, Ended, Entry};
 use reference::generator::history::History;
 use reference::generator::prng::Prng;
 use reference::image::Bus;
@@ -16,11 +16,11 @@ use reference::run::{run, run_with, Outcomes};
 use reference::script::*;
 use reference::sound::is_sound;
 use reference::stand_ins::Answers;
-use reference::vectors::Replay;
+use reference::vectors::{Replay, FILL};
 
 fn assert_round_trip(store: &[u8]) {
     let bus = Bus::from_store(store).expect("listed enum bytes");
-    let mut back = vec![0xee; STORE];
+    let mut back = vec![FILL; STORE];
     bus.to_store(&mut back);
     assert!(back == store);
 }
@@ -81,8 +81,8 @@ fn histories_keep_the_store_sound_and_replay_from_flat_outcomes() {
                 );
                 continue;
             }
-            let mut new = vec![0xee; step.new_length];
-            let mut log = vec![0xee; step.log_capacity];
+            let mut new = vec![FILL; step.new_length];
+            let mut log = vec![FILL; step.log_capacity];
             let again = run(step.call, history.old(), &mut new, &step.outcomes, &mut log);
             assert_eq!(again, step.report);
             assert!(new == history.new_store() && log == history.log(&step));
@@ -107,15 +107,15 @@ fn entry_refusals_change_no_lent_byte() {
     ];
     for entry in Entry::ALL {
         for (old_length, new_length) in lengths {
-            let mut new = vec![0xee; new_length];
-            let mut log = [0xee; 64];
+            let mut new = vec![FILL; new_length];
+            let mut log = [FILL; 64];
             let call = Call::new(entry, 0, 0);
             let report = run(call, &old[..old_length], &mut new, &[0; 64], &mut log);
             assert_eq!(
                 (report.answer, report.requests, report.refused),
                 (-2, 0, true)
             );
-            assert!(new.iter().chain(&log).all(|&byte| byte == 0xee));
+            assert!(new.iter().chain(&log).all(|&byte| byte == FILL));
         }
     }
 }
@@ -181,12 +181,11 @@ impl Answers for Costly {
 fn the_bound_on_the_requests_is_met() {
     let call = Call::new(Entry::RootAttach, 1, 0);
     let outcomes = Outcomes::Asked(Rc::new(RefCell::new(Costly::default())));
-    let mut new = vec![0xee; STORE];
-    let mut log = vec![0xee; 65_536];
+    let mut new = vec![FILL; STORE];
+    let mut log = vec![FILL; LOG];
     let (report, _) = run_with(call, &EMPTY, &mut new, outcomes, &mut log);
     assert_eq!((report.answer, report.ended), (0, Ended::Inside));
-    let devices = (0..PLACES).filter(|&at| is_used(&new, at)).count();
-    let hubs = (0..PLACES).filter(|&at| is_hub(&new, at)).count();
-    assert_eq!((devices, hubs), (31, 3));
+    assert_eq!((devices(&new).count(), hubs(&new).count()), (31, 3));
     assert_eq!(report.requests, 8 * 31 + 444 * 3);
+    assert_eq!(most_requests(&new), report.requests);
 }

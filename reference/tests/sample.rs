@@ -1,7 +1,7 @@
 //! The bench start in the repository: what it shows, and that the original leaves it.
 
 use reference::layout::*;
-use reference::sample::{bench_start, log_file, outcomes_files, store_file};
+use reference::sample::{bench_start, outcomes_files, store_file};
 use reference::sound::is_sound;
 
 fn sample(file: std::path::PathBuf) -> Vec<u8> {
@@ -29,7 +29,7 @@ fn each_instrument_stands_on_its_port() {
         assert_eq!(usize::from(place(&store, hub)[CHILDREN + port]), at + 1);
         assert_eq!(device[DEVICE_DESCRIPTOR + 10], product);
     }
-    assert_eq!((0..PLACES).filter(|&at| is_used(&store, at)).count(), 4);
+    assert_eq!(devices(&store).count(), 4);
 }
 
 #[cfg(have_original)]
@@ -37,9 +37,10 @@ fn each_instrument_stands_on_its_port() {
 fn the_original_leaves_the_store_and_the_log() {
     use reference::call::{Call, Entry};
     use reference::run::run;
+    use reference::sample::log_file;
 
     let mut store = vec![0; STORE];
-    let mut log = vec![0; 65_536];
+    let mut log = vec![0; LOG];
     let call = Call::new(Entry::RootAttach, 0, 0);
     let report = run(call, &vec![0; STORE], &mut store, &bench_start(), &mut log);
     // 4 attaches of 6; 2 hubs of 4 and their ports' power; 6 checks; 3

@@ -4,9 +4,9 @@
 use std::cmp::Reverse;
 use std::collections::BTreeMap;
 use std::process::ExitCode;
-use std::time::Instant;
 
 use comparison::histories::{run, Counts, Grid};
+use comparison::program;
 use reference::arguments::numbers;
 use reference::call::Entry;
 use reference::outside::Outside;
@@ -16,24 +16,8 @@ const SEED: u64 = 1;
 
 fn main() -> ExitCode {
     let [calls, seed] = numbers([CALLS, SEED]);
-    if cfg!(not(have_original)) {
-        println!("{}", reference::original_missing());
-        println!("the port is held to what document 01 says of every call");
-    }
-    let start = Instant::now();
-    let ended = run(calls, seed);
-    eprintln!("{:.1} s", start.elapsed().as_secs_f64());
-    match ended {
-        Ok(counts) => {
-            show(&counts);
-            println!("{} calls, 0 differences", counts.calls);
-            ExitCode::SUCCESS
-        }
-        Err(text) => {
-            println!("{text}");
-            ExitCode::FAILURE
-        }
-    }
+    let alone = "the port is held to what document 01 says of every call";
+    program::run(alone, || run(calls, seed), show)
 }
 
 fn show(counts: &Counts) {
@@ -59,6 +43,7 @@ fn show(counts: &Counts) {
             answers.join(", ")
         );
     }
+    println!("{} calls, 0 differences", counts.calls);
 }
 
 /// A line for each answer, a column for each entry point.

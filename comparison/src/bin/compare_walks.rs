@@ -4,10 +4,9 @@
 use std::cmp::Reverse;
 use std::collections::BTreeMap;
 use std::process::ExitCode;
-use std::time::Instant;
 
 use comparison::descriptors::any_descriptors;
-use comparison::{original, port};
+use comparison::{original, port, program};
 use reference::arguments::numbers;
 use reference::generator::prng::Prng;
 use reference::layout::RECORD_LENGTH;
@@ -23,24 +22,8 @@ type Counts = BTreeMap<(Option<Outside>, Reverse<i32>), u64>;
 
 fn main() -> ExitCode {
     let [walks, seed] = numbers([WALKS, SEED]);
-    if cfg!(not(have_original)) {
-        println!("{}", reference::original_missing());
-        println!("the port is compared with the rules alone");
-    }
-    let start = Instant::now();
-    let ended = count(walks, seed);
-    eprintln!("{:.1} s", start.elapsed().as_secs_f64());
-    match ended {
-        Ok(counts) => {
-            show(&counts);
-            println!("{walks} walks, 0 differences");
-            ExitCode::SUCCESS
-        }
-        Err(text) => {
-            println!("{text}");
-            ExitCode::FAILURE
-        }
-    }
+    let alone = "the port is compared with the rules alone";
+    program::run(alone, || count(walks, seed), show)
 }
 
 fn count(walks: u64, seed: u64) -> Result<Counts, String> {
@@ -103,4 +86,6 @@ fn show(counts: &Counts) {
             Some(case) => println!("outside, {case:?}, {answer}: {walks}"),
         }
     }
+    let walks: u64 = counts.values().sum();
+    println!("{walks} walks, 0 differences");
 }

@@ -74,15 +74,11 @@ fn port_counts() -> Vec<Row> {
 fn requests() -> Vec<Row> {
     let power = [1, 1, 0, 0, 3, 0, 0, 0, 0x23, 3, 8, 0, 1, 0, 0, 0];
     let status = [1, 1, 1, 0, 3, 0, 0, 0, 0xa3, 0, 0, 0, 0x0a, 0, 4, 0];
-    let front = attach(&HUB_CONFIGURATION)
-        .gives(&[9, 41])
-        .gives(&hub_descriptor(1, 1))
-        .gives(&[0; 4]);
     let hub = at(1).send_all(&[get_hub_descriptor(2), get_hub_descriptor(9), GET_HUB_STATUS]);
     vec![
         // stops at the power request
         Row::root_attach("power on port 0")
-            .given(front)
+            .given(hub_before_power(1, 1))
             .answers(-14, 10)
             .logs(&[attached(1, &HUB_CONFIGURATION), hub, vec![power]])
             .leaves(root(1).port(0, 0, 0, 0)),
@@ -104,10 +100,6 @@ fn child_resets() -> Vec<Row> {
         read.repeat(21),
         at(1).send_all(&[clear(RESET_CHANGE, 0)]),
     ];
-    let given = |last: [u8; 4]| {
-        let reads = Script::new().done_times(2).gives_times(20, &port(0x111, 0));
-        reads.gives(&last).done()
-    };
     vec![
         Row::new(
             "child reset, only read 21 shows the change",
@@ -115,7 +107,7 @@ fn child_resets() -> Vec<Row> {
             [0, 1],
             &old,
         )
-        .given(given(port(HIGH, 0x10)))
+        .given(late_reset(port(HIGH, 0x10)))
         .answers(0, 24)
         .logs(&[log.concat(), vec![wait(10_000)]])
         .leaves(old.clone().port(0, 0, HIGH, 0x10).transfer(0, 0, 0)),
@@ -125,7 +117,7 @@ fn child_resets() -> Vec<Row> {
             [0, 1],
             &old,
         )
-        .given(given(port(0x111, 0)))
+        .given(late_reset(port(0x111, 0)))
         .answers(-8, 24)
         .logs(&[log.concat()])
         .leaves(old.clone().port(0, 0, 0x111, 0).transfer(0, 0, 0)),

@@ -40,7 +40,7 @@ pub fn rows() -> Vec<Row> {
         &Store::empty(),
     )
     .given(bus.outcomes)
-    .log_of(65_536)
+    .log_of(LOG)
     .answers(0, 8 * 31 + 444 * 3)
     .logs(&[bus.log])
     .leaves(bus.store)]

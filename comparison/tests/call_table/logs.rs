@@ -1,10 +1,8 @@
 //! Log lines made by hand: setup bytes from USB 2.0 tables 9-3 and 11-16, laid
 //! out as document 01's actions.
 
+pub use reference::actions::{clear, set, status_of, wait, Action, Setup, FRAME_INTERVAL};
 use reference::script::HUB_CONFIGURATION;
-
-pub type Action = [u8; 16];
-pub type Setup = [u8; 8];
 
 /// Where requests go: the address, the speed (0 high, 1 full, 2 low) and the
 /// packet size (0 to 3 for 8, 16, 32, 64).
@@ -32,13 +30,6 @@ impl Pipe {
     }
 }
 
-pub fn wait(microseconds: u32) -> Action {
-    let [a, b, c, d] = microseconds.to_le_bytes();
-    [2, 0, 0, 0, 0, 0, 0, 0, a, b, c, d, 0, 0, 0, 0]
-}
-
-pub const FRAME_INTERVAL: Action = [3, 0, 0, 0, 0, 0, 0, 0, 0, 0, 0, 0, 0, 0, 0, 0];
-
 pub const GET_DEVICE: Setup = [0x80, 6, 0, 1, 0, 0, 18, 0];
 pub const GET_HUB_STATUS: Setup = [0xa0, 0, 0, 0, 0, 0, 4, 0];
 
@@ -57,19 +48,6 @@ pub fn set_configuration(value: u8) -> Setup {
 
 pub fn get_hub_descriptor(length: u8) -> Setup {
     [0xa0, 6, 0, 41, 0, 0, length, 0]
-}
-
-/// A port's requests; ports are counted from 0 and sent counted from 1.
-pub fn status_of(port: u8) -> Setup {
-    [0xa3, 0, 0, 0, port + 1, 0, 4, 0]
-}
-
-pub fn set(feature: u8, port: u8) -> Setup {
-    [0x23, 3, feature, 0, port + 1, 0, 0, 0]
-}
-
-pub fn clear(feature: u8, port: u8) -> Setup {
-    [0x23, 1, feature, 0, port + 1, 0, 0, 0]
 }
 
 // Port features, USB 2.0 table 11-17, and what document 01 sends for

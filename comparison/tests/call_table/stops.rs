@@ -119,15 +119,11 @@ fn waits() -> Vec<Row> {
 
 /// A stop is not ignored where a failure would be.
 fn within() -> Vec<Row> {
-    let front = attach(&HUB_CONFIGURATION)
-        .gives(&[9, 41])
-        .gives(&hub_descriptor(2, 1))
-        .gives(&[0; 4]);
     let hub = [get_hub_descriptor(2), get_hub_descriptor(9), GET_HUB_STATUS];
     let garbled = "a garbled first clear of a reset";
     vec![
         Row::root_attach("a garbled outcome of a power request")
-            .given(front.outcome(10, 0, &[]))
+            .given(hub_before_power(2, 1).outcome(10, 0, &[]))
             .answers(-13, 10)
             .logs(&[
                 attached(1, &HUB_CONFIGURATION),
@@ -149,9 +145,7 @@ fn within() -> Vec<Row> {
 
 /// 11 requests of the hub's attach, a check, 8 of the change, and 2.
 fn below() -> Vec<Row> {
-    let found = hub_attach(1, 1)
-        .gives(&port(HIGH, 1))
-        .then(connection(HIGH));
+    let found = hub_attach(1, 1).then(found_device(HIGH));
     let left = root(1).port(0, 0, HIGH, 0).addressed(1).child(0, 0, 1);
     vec![Row::root_attach("outcomes spent in a child's attach")
         .given(found.gives(&DEVICE))

@@ -3,9 +3,6 @@
 use reference::layout::*;
 use reference::script::*;
 
-/// Powered, nothing connected.
-pub const POWERED: u16 = 0x100;
-
 #[derive(Clone)]
 pub struct Store(pub Vec<u8>);
 

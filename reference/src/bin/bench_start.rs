@@ -9,13 +9,13 @@ fn main() {
 #[cfg(have_original)]
 fn main() -> std::io::Result<()> {
     use reference::call::{Call, Ended, Entry};
-    use reference::layout::STORE;
+    use reference::layout::{LOG, STORE};
     use reference::run::run;
     use reference::sample::{bench_start, log_file, outcomes_files, store_file};
 
     let outcomes = bench_start();
     let mut store = vec![0; STORE];
-    let mut log = vec![0; 65_536];
+    let mut log = vec![0; LOG];
     let call = Call::new(Entry::RootAttach, 0, 0);
     let report = run(call, &vec![0; STORE], &mut store, &outcomes, &mut log);
     assert_eq!((report.answer, report.ended), (0, Ended::Inside));

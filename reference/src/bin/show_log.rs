@@ -3,13 +3,14 @@
 
 use std::io::{self, Read, Write};
 
-use reference::actions::{meaning, ACTION_LENGTH};
+use reference::actions::meaning;
+use reference::layout::ACTION;
 
 fn main() -> io::Result<()> {
     let mut log = Vec::new();
     io::stdin().read_to_end(&mut log)?;
     let mut out = io::stdout().lock();
-    let (actions, rest) = log.as_chunks::<ACTION_LENGTH>();
+    let (actions, rest) = log.as_chunks::<ACTION>();
     for action in actions {
         for byte in action {
             write!(out, "{byte:02x} ")?;

@@ -1,6 +1,7 @@
-//! What the tests share: runs, actions and stores made by hand.
+//! What the tests share: runs, and stores made by hand.
 #![allow(dead_code)]
 
+use reference::actions::{Action, Setup};
 use reference::call::{Call, Ended, Entry, Report};
 use reference::layout::*;
 use reference::outside::Outside;
@@ -10,7 +11,6 @@ use reference::sound::is_sound;
 use reference::vectors::FILL;
 
 pub static EMPTY: [u8; STORE] = [0; STORE];
-pub const POWERED: u16 = 0x100;
 
 pub struct Run {
     pub report: Report,
@@ -30,7 +30,7 @@ pub fn run_in(capacity: usize, call: Call, old: &[u8], script: &Script) -> Run {
 }
 
 pub fn run_call(entry: Entry, first: u32, second: u32, old: &[u8], script: Script) -> Run {
-    run_in(65_536, Call::new(entry, first, second), old, &script)
+    run_in(LOG, Call::new(entry, first, second), old, &script)
 }
 
 pub fn root_attach(speed: u32, script: Script) -> Run {
@@ -55,15 +55,15 @@ impl Run {
         place(&self.new, at)
     }
 
-    pub fn actions(&self) -> Vec<[u8; 16]> {
+    pub fn actions(&self) -> Vec<Action> {
         self.log
-            .chunks(16)
+            .chunks(ACTION)
             .map(|action| action.try_into().unwrap())
             .collect()
     }
 
     /// Setup bytes of the requests.
-    pub fn setups(&self) -> Vec<[u8; 8]> {
+    pub fn setups(&self) -> Vec<Setup> {
         let requests = self.actions().into_iter().filter(|action| action[0] == 1);
         requests
             .map(|action| action[8..].try_into().unwrap())
@@ -84,26 +84,6 @@ impl Run {
     }
 }
 
-pub fn wait(microseconds: u32) -> [u8; 16] {
-    let [a, b, c, d] = microseconds.to_le_bytes();
-    [2, 0, 0, 0, 0, 0, 0, 0, a, b, c, d, 0, 0, 0, 0]
-}
-
-pub const FRAME_INTERVAL: [u8; 16] = [3, 0, 0, 0, 0, 0, 0, 0, 0, 0, 0, 0, 0, 0, 0, 0];
-
-/// Setup bytes of a port's GetStatus, SetFeature and ClearFeature.
-pub fn status_of(port: u8) -> [u8; 8] {
-    [0xa3, 0, 0, 0, port + 1, 0, 4, 0]
-}
-
-pub fn set(feature: u8, port: u8) -> [u8; 8] {
-    [0x23, 3, feature, 0, port + 1, 0, 0, 0]
-}
-
-pub fn clear(feature: u8, port: u8) -> [u8; 8] {
-    [0x23, 1, feature, 0, port + 1, 0, 0, 0]
-}
-
 /// A root hub with so many empty ports, attached at high speed.
 pub fn root_hub(ports: u8) -> Vec<u8> {
     let empty_ports = Script::new().gives_times(ports.into(), &port(POWERED, 0));
@@ -121,10 +101,11 @@ pub fn root_and_keyboard() -> Vec<u8> {
 
 /// A root hub of one port with a hub of one empty port on it, at place 1.
 pub fn root_and_hub() -> Vec<u8> {
-    let child = connection(HIGH)
+    let script = hub_attach(1, 1)
+        .then(found_device(HIGH))
         .then(hub_attach(1, 1))
         .gives(&port(POWERED, 0));
-    let run = root_attach(0, hub_attach(1, 1).gives(&port(HIGH, 1)).then(child));
+    let run = root_attach(0, script);
     assert_eq!(run.answer(), 0);
     run.new
 }
