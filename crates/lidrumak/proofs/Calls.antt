@@ -1,52 +1,28 @@
 -- Demand 3 of the exported calls, from demand 3 of the model and the exports' contracts. Assumes nothing.
 use mathlib.Core.Path.{_≡_, refl, sym, ap, _∙_, subst}
-use mathlib.Core.Bool.{false}
 use mathlib.Core.List.{List}
-use Prim.Native.Nat.{ℕ, _*_, _≤_, _<_}
+use Prim.Native.Nat.{ℕ, _*_, _≤_}
 use native.Mathlib.Omega.{arith}
-use borrow.Author.Tests.{ltb-false}
 use Rattle.usb_types.specs.Answers.{haltNumber}
 use Rattle.usb_types.specs.declared.types.Halt.{Halt}
 use Rattle.usb_model.specs.Programs.{Ran, done, fail, halt, endOf}
 use Rattle.usb_model.specs.World.{World}
-use Rattle.usb_model.specs.Attach.{attachNew}
-use Rattle.usb_model.specs.Entry.{Lent, Left, accepted, noPort, start, answered, call}
-use Rattle.usb_model.specs.Kept.{LentBytes, Onward}
+use Rattle.usb_model.specs.Entry.{Lent, Left, accepted, start, answered, call}
+use Rattle.usb_model.specs.Kept.{LentBytes}
 use Rattle.usb_model.specs.Count.{mostRequests, storeLeft}
 use Rattle.usb_model.specs.History.{Event}
 use Rattle.usb_model.specs.Demand3 as Model
 use Rattle.usb_model.specs.Demand3.{Call, attaches, scans, checks, verdict, program, entry, Ended, finished, failed, Reached}
-use Rattle.usb_model.proofs.Keeps.{Any}
-use Rattle.usb_model.proofs.Keeps as Keeps
-use Rattle.usb_model.proofs.Walks.{Reach, reach-here}
-use Rattle.usb_model.proofs.Cycle.{attach-walks, check-connection, root-hub, check-for-change}
-use Rattle.usb_model.proofs.Accepted.{root-accepted, hub-accepted}
-use Rattle.usb_model.proofs.Entries.{start-good, root-attach-accounts, scan-accounts, port-check-accounts}
-use Rattle.usb_model.proofs.Demand3.{demand3, attaches-is, scans-is, checks-is, leaves-ended}
+use Rattle.usb_model.proofs.Keeps.{left-holds}
+use Rattle.usb_model.proofs.Entries.{root-attach-accounts, scan-accounts, port-check-accounts}
+use Rattle.usb_model.proofs.Demand3.{demand3, call-walks, attaches-is, scans-is, checks-is, leaves-ended}
 use Rattle.lidrumak.specs.Calls.{promised, Made, leftBy, Stopped, actionsOf, Calls, empty, refusal, ran, Histories, RootAttaches, Reports}
 
 -- ---- whole actions
 
-walked : {n : ℕ} {u : World} {r : Ran World (Unit {0})} → Keeps.Left (Reach u n) Any r → Onward u (endOf r)
-walked (Keeps.is-done x q) = x .onward
-walked (Keeps.is-failed x) = x .onward
-walked (Keeps.is-halted x) = x .onward
-
-module _ (lent : Lent) (bytes : LentBytes lent) where
-  goes-on : (c : Call) → verdict c lent ≡ accepted → Onward (start lent) (endOf (program c (start lent)))
-  goes-on (attaches speed) v =
-      let x = root-accepted lent speed v in
-      walked (root-hub (start lent) speed (omega (arith, x .low)) .run (start lent) (reach-here (start lent) (start-good lent bytes (x .is-sound)) (omega arith)) .walk)
-  goes-on (scans hub) v =
-      let x = hub-accepted lent hub false v in
-      walked (check-for-change 32 (start lent) 32 hub .run (start lent) (reach-here (start lent) (start-good lent bytes (x .is-sound)) (x .first)) .walk)
-  goes-on (checks hub port) v =
-      let x = hub-accepted lent hub (noPort port) v in
-      let low : port < 10 = omega (arith, ltb-false 9 port (x .good)) in
-      walked (check-connection attachNew attachNew (λ v _. attach-walks 32 v) hub port (omega arith) low .run (start lent) (reach-here (start lent) (start-good lent bytes (x .is-sound)) (x .first)) .walk)
-
-  pub whole-actions : (c : Call) → verdict c lent ≡ accepted → endOf (program c (start lent)) .at .logged ≡ 16 * actionsOf c lent
-  whole-actions c v = omega (arith, goes-on c v .logged)
+whole-actions : (lent : Lent) → LentBytes lent → (c : Call) → verdict c lent ≡ accepted
+    → endOf (program c (start lent)) .at .logged ≡ 16 * actionsOf c lent
+whole-actions lent bytes c v = omega (arith, left-holds (call-walks lent bytes c v .1) .onward .logged)
 
 -- ---- the contracts, as demand 3 has them
 
@@ -66,7 +42,8 @@ ended (done a w) n = finished
 ended (fail e w) n = failed
 ended (halt h w) n = absurd (n h refl)
 
-made-ended : (c : Call) (made : Made c) → verdict c (made .lends) ≡ accepted → (Stopped (made .reply) → ⊥) → Ended (program c (start (made .lends))) (endOf (program c (start (made .lends))))
+made-ended : (c : Call) (made : Made c) → verdict c (made .lends) ≡ accepted → (Stopped (made .reply) → ⊥)
+    → Ended (program c (start (made .lends))) (endOf (program c (start (made .lends))))
 unfolding call
 made-ended c made v n = ended _ (λ h e. n (h, ap (λ (l : Left). l .answer) (entry-is c made) ∙ rw v e))
 
@@ -78,14 +55,16 @@ reached (ran r c made e v n) =
     let l = leaves-ended c (made .lends) v d in
     let new : made .new ≡ endOf (program c (start (made .lends))) .store = ap (λ (x : Left). x .new) (entry-is c made) ∙ l .0 in
     let log : made .log ≡ endOf (program c (start (made .lends))) .log = ap (λ (x : Left). x .log) (entry-is c made) ∙ l .1 in
-    rw (new, log) (Model.ran (reached r) c (made .lends) e (made .bytes) v d (actionsOf c (made .lends)) (whole-actions (made .lends) (made .bytes) c v))
+    let whole = whole-actions (made .lends) (made .bytes) c v in
+    rw (new, log) (Model.ran (reached r) c (made .lends) e (made .bytes) v d (actionsOf c (made .lends)) whole)
 
 pub histories : Histories
 histories s h r = demand3 s h (reached r)
 
 pub root-attaches : RootAttaches
 root-attaches s h r speed made e =
-    subst (λ (x : Left). x .requests ≤ mostRequests (storeLeft (verdict (attaches speed) (made .lends)) (made .lends) x)) (sym (entry-is (attaches speed) made)) (histories s h r .1 speed (made .lends) e (made .bytes))
+    subst (λ (x : Left). x .requests ≤ mostRequests (storeLeft (verdict (attaches speed) (made .lends)) (made .lends) x))
+    (sym (entry-is (attaches speed) made)) (histories s h r .1 speed (made .lends) e (made .bytes))
 
 pub reports : Reports
 reports (attaches speed) made = rw (made .is) (root-attach-accounts (made .lends) (made .bytes) speed)

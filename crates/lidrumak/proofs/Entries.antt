@@ -1,15 +1,13 @@
 -- The ways through the exported calls, over plain values. Assumes nothing.
 use mathlib.Core.Path.{_≡_, refl, sym, ap, _∙_, subst}
-use mathlib.Core.Bool.{false}
 use mathlib.Core.List.{List}
 use Prim.Native.Nat.{ℕ, _+_, _≤_, _<_}
 use native.Mathlib.Omega.{arith}
-use lib.Dec.{leb}
 use lib.IntN.{ℤ}
 use lib.ListN.{length, getD}
 use mir.Syntax.{w8}
 use mir.Val.{Fits}
-use borrow.Author.Tests.{ltb-false, leb-false, lt-ltb, le-ltb, eq-eqb, ne-eqb}
+use borrow.Author.Tests.{lt-ltb, le-ltb, eq-eqb, ne-eqb}
 use Rattle.usb_types.specs.Answers.{answerNumber, refusalNumber}
 use Rattle.usb_types.specs.declared.types.Refusal.{Refusal}
 use Rattle.usb_types.specs.declared.types.Refusal.the-variants.{BadArgument}
@@ -22,9 +20,8 @@ use Rattle.usb_model.specs.declared.Progress.{Progress}
 use Rattle.usb_model.specs.World.{World, M}
 use Rattle.usb_model.specs.Walk.{RecordLength, walk}
 use Rattle.usb_model.specs.Entry as Model
-use Rattle.usb_model.specs.Entry.{Lent, start, leaves, answered, call, isUnused, noPort, configurationWalk}
+use Rattle.usb_model.specs.Entry.{Lent, start, leaves, answered, call, configurationWalk}
 use Rattle.usb_model.specs.Kept.{Bytes, Good, LentBytes}
-use Rattle.usb_model.proofs.Accepted.{neither}
 use Rattle.usb_model.proofs.Entries.{start-good}
 use Rattle.usb_transfer.specs.declared.log.Step.{Step}
 use Rattle.usb_transfer.specs.Runs.{here, Fit, gave, Ends}
@@ -80,17 +77,11 @@ started l bytes r e =
       good = good;
     })
 
-pub on-bus : (l : Lent) → LentBytes l → Sound (l .old) → {w : World} → w ≡ start l → (place : ℕ) → place < Places → place + 1 ≤ firstUnused (l .old) → Bus place w
+pub on-bus : (l : Lent) → LentBytes l → Sound (l .old) → {w : World} → w ≡ start l
+    → (place : ℕ) → place < Places → place + 1 ≤ firstUnused (l .old) → Bus place w
 on-bus l bytes r e place inside used =
     let s = started l bytes r refl in
     subst (Bus place) (sym e) (record { fit = s .fit; good = s .good; used = omega arith; inside = inside })
-
--- a child that is not unused
-pub used-inside : (l : Lent) (place : ℕ) → isUnused l place ≡ false → place < Places
-used-inside l place e = leb-false Places place (neither (leb Places place) _ e .0)
-
-pub port-inside : (port : ℕ) → noPort port ≡ false → port < 10
-port-inside port e = omega (arith, ltb-false 9 port e)
 
 -- ---- the walk alone
 

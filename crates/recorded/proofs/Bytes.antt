@@ -2,7 +2,7 @@
 use mathlib.Core.Path.{_≡_, refl, ap, _∙_}
 use mathlib.Core.List.{List, [], _∷_, _++_}
 use Prim.Native.Nat.{ℕ, zero, suc, _+_, _-_, _*_, _%_, _^_, _≤_, _<_}
-use native.Mathlib.Nat.{add-zero, pow-suc, mul-assoc}
+use native.Mathlib.Nat.{pow-suc, mul-assoc}
 use native.Mathlib.Numerals.{add-one}
 use native.Mathlib.Omega.{arith}
 use borrow.Author.Tests.{lt-ltb, le-ltb}
@@ -12,9 +12,9 @@ use mir.Facts.{toZ-pos, toZ-ofZ}
 use lib.IntN.{pos, negsuc, _-ℤ_}
 use lib.ListN.{length, getD, take, drop, drop-of-length-le, length-drop}
 use lib.Seq.{drop-cons, drop-drop, take-add, length-take-le}
-use Rattle.usb_types.specs.Numbers.{fromLittleEndian}
+use Rattle.usb_types.specs.Numbers.{fromLittleEndian, numberIn}
 use Rattle.recorded.specs.Sums.{adlerFrom, adler}
-use Rattle.recorded.specs.Numbers.{numberIn, signed}
+use Rattle.recorded.specs.Numbers.{signed}
 
 -- ---- the check sum
 
@@ -33,36 +33,22 @@ adler-start bytes = refl
 
 -- ---- numbers
 
-module _ (bytes : List ℕ) (at : ℕ) where
-  number-more : (k n : ℕ) → at + k < length bytes → numberIn bytes (at + k) (suc n) ≡ getD bytes (at + k) 0 + 256 * numberIn bytes (at + suc k) n
-  unfolding numberIn
-  number-more k n h =
-      let next : suc (at + k) ≡ at + suc k = omega arith in
-      rw (drop-cons bytes (at + k) 0, next)
-
-  number-none : (k : ℕ) → numberIn bytes (at + k) 0 ≡ 0
-  unfolding numberIn
-  number-none k = refl
-
-  number-first : (n : ℕ) → at < length bytes → numberIn bytes at (suc n) ≡ getD bytes at 0 + 256 * numberIn bytes (at + 1) n
-  number-first n h = rw add-zero at (number-more 0 n (rw add-zero h))
-
-  pub number-4 : at + 4 ≤ length bytes → numberIn bytes at 4 ≡ getD bytes at 0 + getD bytes (at + 1) 0 * 256 + getD bytes (at + 2) 0 * 65536 + getD bytes (at + 3) 0 * 16777216
-  number-4 h = omega (arith, number-first 3 (omega arith), number-more 1 2 (omega arith), number-more 2 1 (omega arith), number-more 3 0 (omega arith), number-none 4)
-
 -- the bytes of a number in two parts
 from-append : (a b : List ℕ) → fromLittleEndian (a ++ b) ≡ fromLittleEndian a + 256 ^ length a * fromLittleEndian b
 from-append [] b = omega arith
 from-append (x ∷ a) b =
     rw (from-append a b, pow-suc 256 (length a)) (omega (arith, mul-assoc 256 (256 ^ length a) (fromLittleEndian b)))
 
-pub number-8 : (bytes : List ℕ) (at : ℕ) → at + 8 ≤ length bytes → numberIn bytes at 8 ≡ numberIn bytes at 4 + numberIn bytes (at + 4) 4 * 4294967296
+pub number-8 : (bytes : List ℕ) (at : ℕ) → at + 8 ≤ length bytes
+    → numberIn bytes at 8 ≡ numberIn bytes at 4 + numberIn bytes (at + 4) 4 * 4294967296
 unfolding numberIn
 number-8 bytes at h =
-    let long : length (take 4 (drop at bytes)) ≡ 4 = length-take-le 4 (drop at bytes) (rw length-drop (omega arith)) in
-    let whole : take 8 (drop at bytes) ≡ take 4 (drop at bytes) ++ take 4 (drop (at + 4) bytes) = take-add 4 4 (drop at bytes) ∙ rw drop-drop in
-    let two : fromLittleEndian (take 8 (drop at bytes)) ≡ fromLittleEndian (take 4 (drop at bytes)) + 256 ^ length (take 4 (drop at bytes)) * fromLittleEndian (take 4 (drop (at + 4) bytes))
-    = ap fromLittleEndian whole ∙ from-append (take 4 (drop at bytes)) (take 4 (drop (at + 4) bytes)) in
+    let low : List ℕ = take 4 (drop at bytes) in
+    let high : List ℕ = take 4 (drop (at + 4) bytes) in
+    let long : length low ≡ 4 = length-take-le 4 (drop at bytes) (rw length-drop (omega arith)) in
+    let whole : take 8 (drop at bytes) ≡ low ++ high = take-add 4 4 (drop at bytes) ∙ rw drop-drop in
+    let two : fromLittleEndian (take 8 (drop at bytes)) ≡ fromLittleEndian low + 256 ^ length low * fromLittleEndian high
+    = ap fromLittleEndian whole ∙ from-append low high in
     omega (arith, rw long at two)
 
 -- ---- signed numbers

@@ -8,7 +8,7 @@ use lib.ListN.{length, getD, take, drop, set, replicate, length-replicate}
 use lib.Seq.{drop-drop, getD-drop}
 use Rattle.usb_store.specs.Layout.{StoreLength, emptyStore}
 use Rattle.usb_store.specs.Access.{write}
-use Rattle.recorded.specs.Numbers.{numberIn}
+use Rattle.usb_types.specs.Numbers.{numberIn}
 use Rattle.recorded.specs.Stores.{resized, edited, storeBefore, oldStore, storeAfter}
 use Rattle.recorded.specs.declared.head.Asked.{Asked}
 
@@ -38,7 +38,8 @@ unfolding numberIn
 number-dropped edits at = refl
 
 module _ (n k : ℕ) (edits s : List ℕ) where
-  edit-more : k < n → edited (n - k) (drop (k * 5) edits) s ≡ edited (n - (k + 1)) (drop ((k + 1) * 5) edits) (set s (numberIn edits (k * 5) 4) (getD edits (k * 5 + 4) 0))
+  edit-more : k < n → edited (n - k) (drop (k * 5) edits) s
+      ≡ edited (n - (k + 1)) (drop ((k + 1) * 5) edits) (set s (numberIn edits (k * 5) 4) (getD edits (k * 5 + 4) 0))
   edit-more h =
       let more : n - k ≡ suc (n - (k + 1)) = omega arith in
       let next : k * 5 + 5 ≡ (k + 1) * 5 = omega arith in
@@ -72,7 +73,8 @@ module _ (asked : Asked) (s : List ℕ) where
   unfolding storeBefore
   goes-on f = simp (ne-eqb _ _ f)
 
-  pub carried : (new s′ : List ℕ) → asked .flags / 2 % 2 ≡ 1 → length s ≡ StoreLength → s′ ≡ resized (length s) new → s′ ≡ storeAfter asked new s
+  pub carried : (new s′ : List ℕ) → asked .flags / 2 % 2 ≡ 1 → length s ≡ StoreLength → s′ ≡ resized (length s) new
+      → s′ ≡ storeAfter asked new s
   unfolding storeAfter
   carried new s′ f l e = simp (eq-eqb _ _ f) (e ∙ ap (λ (n : ℕ). resized n new) l)
 
@@ -80,7 +82,7 @@ module _ (asked : Asked) (s : List ℕ) where
   unfolding storeAfter
   stays new f = simp (ne-eqb _ _ f)
 
-pub old-is : (asked : Asked) (edits s old old′ : List ℕ) (n : ℕ) → n ≡ asked .«old_len» → old ≡ resized n s → old′ ≡ edited (asked .edits) edits old
-    → old′ ≡ oldStore asked edits s
+pub old-is : (asked : Asked) (edits s old old′ : List ℕ) (n : ℕ) → n ≡ asked .«old_len» → old ≡ resized n s
+    → old′ ≡ edited (asked .edits) edits old → old′ ≡ oldStore asked edits s
 unfolding oldStore
 old-is asked edits s old old′ n l r e = cc

@@ -4,7 +4,8 @@ use mathlib.Core.List.{List}
 use Prim.Native.Nat.{ℕ}
 use lib.Dec.{leb, ltb}
 use lib.ListN.{getD}
-use Rattle.recorded.specs.Numbers.{numberIn, signed}
+use Rattle.usb_types.specs.Numbers.{numberIn}
+use Rattle.recorded.specs.Numbers.{signed}
 use Rattle.recorded.specs.declared.head.Asked.{Asked}
 use Rattle.recorded.specs.declared.head.Recorded.{Recorded}
 use Rattle.recorded.specs.declared.head.RecordedWalk.{RecordedWalk}

@@ -6,7 +6,7 @@ use lib.Dec.{eqb}
 use lib.ListN.{getD, drop, set, replicate}
 use Rattle.usb_store.specs.Layout.{StoreLength, emptyStore}
 use Rattle.usb_store.specs.Access.{write}
-use Rattle.recorded.specs.Numbers.{numberIn}
+use Rattle.usb_types.specs.Numbers.{numberIn}
 use Rattle.recorded.specs.declared.head.Asked.{Asked}
 
 -- "bit 0, a new sequence begins"

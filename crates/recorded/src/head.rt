@@ -3,7 +3,8 @@ use usb_store::wide;
 ghost use mathlib.Core.Path.{_≡_};
 ghost use Prim.Native.Nat.{_+_, _≤_, _<_};
 ghost use lib.ListN.{length};
-ghost use Rattle.recorded.specs.Numbers.{numberIn, signed as Numbers·signed};
+ghost use Rattle.usb_types.specs.Numbers.{numberIn};
+ghost use Rattle.recorded.specs.Numbers.{signed as Numbers·signed};
 ghost use Rattle.recorded.specs.Heads.{askedIn, recordedIn, walkIn, fits as Heads·fits, walkFits};
 
 pub const HEAD_LEN: usize = 48;

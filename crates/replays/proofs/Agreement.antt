@@ -8,11 +8,13 @@ use lib.IntN.{ℤ, pos, negsuc}
 use mir.Syntax.{w32}
 use mir.Val.{toZ, ofZ}
 use borrow.Author.Tests.{eq-eqb, ne-eqb}
-use Rattle.usb_model.specs.Entry.{Lent, Left, WalkLeft, rootAttach, scan, portCheck, childReset, childCheck, retriedReset, connectionChange, configurationWalk}
+use Rattle.usb_types.specs.Numbers.{sameInt}
+use Rattle.usb_model.specs.Entry.{Lent, Left, WalkLeft, rootAttach, scan, portCheck, childReset, childCheck}
+use Rattle.usb_model.specs.Entry.{retriedReset, connectionChange, configurationWalk}
 use Rattle.usb_entry.specs.declared.reply.Reply.{Reply}
 use Rattle.usb_entry.specs.Replies.{lent, left, walkLeft}
 use Rattle.recorded.specs.Sums.{adler}
-use Rattle.replays.specs.Replays.{Replays, sameInt, entryPoint, filled, replayed, agrees, walkAgrees, walked}
+use Rattle.replays.specs.Replays.{Replays, entryPoint, filled, replayed, agrees, walkAgrees, walked}
 use Rattle.recorded.specs.Stores.{storeBefore, oldStore, storeAfter}
 use Rattle.recorded.specs.declared.head.Asked.{Asked}
 use Rattle.recorded.specs.declared.head.Recorded.{Recorded}
@@ -45,7 +47,8 @@ module _ (entry first second : ℕ) (lent : Lent) where
   unfolding entryPoint
   entry-5 e = rw e
 
-  pub entry-6 : (entry ≡ 0 → ⊥) → (entry ≡ 1 → ⊥) → (entry ≡ 2 → ⊥) → (entry ≡ 3 → ⊥) → (entry ≡ 4 → ⊥) → (entry ≡ 5 → ⊥) → entryPoint entry first second lent ≡ connectionChange first second lent
+  pub entry-6 : (entry ≡ 0 → ⊥) → (entry ≡ 1 → ⊥) → (entry ≡ 2 → ⊥) → (entry ≡ 3 → ⊥)
+      → (entry ≡ 4 → ⊥) → (entry ≡ 5 → ⊥) → entryPoint entry first second lent ≡ connectionChange first second lent
   unfolding entryPoint
   entry-6 a b c d e f = simp (ne-eqb entry 0 a, ne-eqb entry 1 b, ne-eqb entry 2 c, ne-eqb entry 3 d, ne-eqb entry 4 e, ne-eqb entry 5 f)
 
@@ -73,7 +76,8 @@ bits-other h e = h (ap (ofZ w32) e)
 -- the tests in their order; x and y are the check sums of log and store
 module _ (recorded : Recorded) (l : Left) where
   agree-by : (a r s t : Bool) → sameInt (l .answer) (recorded .answer) ≡ a → eqb (l .requests) (recorded .requests) ≡ r
-      → eqb (adler (l .log)) (recorded .«log_sum») ≡ s → eqb (adler (l .new)) (recorded .«store_sum») ≡ t → (a && r && s && t) ≡ agrees recorded l
+      → eqb (adler (l .log)) (recorded .«log_sum») ≡ s → eqb (adler (l .new)) (recorded .«store_sum») ≡ t
+      → (a && r && s && t) ≡ agrees recorded l
   unfolding agrees
   agree-by a r s t pa pr ps pt = cc
 
@@ -83,15 +87,19 @@ module _ (recorded : Recorded) (l : Left) where
   pub other-requests : l .answer ≡ recorded .answer → (l .requests ≡ recorded .requests → ⊥) → false ≡ agrees recorded l
   other-requests a r = agree-by _ _ _ _ (same-int _ _ a) (ne-eqb _ _ r) refl refl
 
-  pub other-log : l .answer ≡ recorded .answer → l .requests ≡ recorded .requests → (x : ℕ) → x ≡ adler (l .log) → (x ≡ recorded .«log_sum» → ⊥) → false ≡ agrees recorded l
+  pub other-log : l .answer ≡ recorded .answer → l .requests ≡ recorded .requests → (x : ℕ) → x ≡ adler (l .log)
+      → (x ≡ recorded .«log_sum» → ⊥) → false ≡ agrees recorded l
   other-log a r x e s = agree-by _ _ _ _ (same-int _ _ a) (eq-eqb _ _ r) (ne-eqb _ _ (λ p. s (e ∙ p))) refl
 
-  pub by-store : l .answer ≡ recorded .answer → l .requests ≡ recorded .requests → (x y : ℕ) → x ≡ adler (l .log) → x ≡ recorded .«log_sum» → y ≡ adler (l .new)
+  pub by-store : l .answer ≡ recorded .answer → l .requests ≡ recorded .requests
+      → (x y : ℕ) → x ≡ adler (l .log) → x ≡ recorded .«log_sum» → y ≡ adler (l .new)
       → eqb y (recorded .«store_sum») ≡ agrees recorded l
-  by-store a r x y e s f = ap (λ (n : ℕ). eqb n (recorded .«store_sum»)) f ∙ agree-by _ _ _ _ (same-int _ _ a) (eq-eqb _ _ r) (eq-eqb _ _ (sym e ∙ s)) refl
+  by-store a r x y e s f =
+      ap (λ (n : ℕ). eqb n (recorded .«store_sum»)) f ∙ agree-by _ _ _ _ (same-int _ _ a) (eq-eqb _ _ r) (eq-eqb _ _ (sym e ∙ s)) refl
 
 module _ (recorded : RecordedWalk) (l : WalkLeft) where
-  walk-agree-by : (a s : Bool) → sameInt (l .answer) (recorded .answer) ≡ a → eqb (adler (l .kept)) (recorded .«record_sum») ≡ s → (a && s) ≡ walkAgrees recorded l
+  walk-agree-by : (a s : Bool) → sameInt (l .answer) (recorded .answer) ≡ a → eqb (adler (l .kept)) (recorded .«record_sum») ≡ s
+      → (a && s) ≡ walkAgrees recorded l
   unfolding walkAgrees
   walk-agree-by a s pa ps = cc
 
@@ -103,9 +111,11 @@ module _ (recorded : RecordedWalk) (l : WalkLeft) where
 
 -- ---- a replay
 
-module _ (asked : Asked) (recorded : Recorded) (edits outcomes s s′ s″ old new new′ log log′ : List ℕ) (r : Reply) (ok : Bool) (before : s′ ≡ storeBefore asked s)
+module _ (asked : Asked) (recorded : Recorded) (edits outcomes s s′ s″ old new new′ log log′ : List ℕ) (r : Reply) (ok : Bool)
+    (before : s′ ≡ storeBefore asked s)
     (o : old ≡ oldStore asked edits s′) (n : new ≡ filled (asked .«new_len»)) (l : log ≡ filled (asked .«log_len»))
-    (call : left r new′ log′ ≡ entryPoint (asked .entry) (asked .first) (asked .second) (lent old new outcomes log)) (after : s″ ≡ storeAfter asked new′ s′)
+    (call : left r new′ log′ ≡ entryPoint (asked .entry) (asked .first) (asked .second) (lent old new outcomes log))
+    (after : s″ ≡ storeAfter asked new′ s′)
     (says : ok ≡ agrees recorded (left r new′ log′)) where
   whole : left r new′ log′ ≡ replayed asked edits outcomes s
   unfolding replayed

@@ -1,11 +1,11 @@
 -- A recorded call or walk, replayed: what the model's entry point leaves, and whether that is what was recorded.
 use mathlib.Core.Path.{_≡_}
-use mathlib.Core.Bool.{Bool, true, false, cond, _&&_}
+use mathlib.Core.Bool.{Bool, true, cond, _&&_}
 use mathlib.Core.List.{List}
 use Prim.Native.Nat.{ℕ, _*_, _≤_}
 use lib.Dec.{eqb}
-use lib.IntN.{ℤ, pos, negsuc}
 use lib.ListN.{length, replicate}
+use Rattle.usb_types.specs.Numbers.{sameInt}
 use Rattle.usb_store.specs.Layout.{StoreLength}
 use Rattle.usb_model.specs.Entry.{Lent, Left, WalkLeft, rootAttach, scan, portCheck, childReset, childCheck, retriedReset, connectionChange, configurationWalk}
 use Rattle.usb_entry.specs.Replies.{lent}
@@ -46,13 +46,6 @@ unfoldable pub replayed : Asked → List ℕ → List ℕ → List ℕ → Left
 replayed asked edits outcomes s =
     entryPoint (asked .entry) (asked .first) (asked .second)
     (lent (oldStore asked edits (storeBefore asked s)) (filled (asked .«new_len»)) outcomes (filled (asked .«log_len»)))
-
--- are two signed numbers the same?
-unfoldable pub sameInt : ℤ → ℤ → Bool
-sameInt (pos m) (pos n) = eqb m n
-sameInt (negsuc m) (negsuc n) = eqb m n
-sameInt (pos m) (negsuc n) = false
-sameInt (negsuc m) (pos n) = false
 
 -- answer, requests and the check sums of the whole log and the whole new store are those recorded
 unfoldable pub agrees : Recorded → Left → Bool

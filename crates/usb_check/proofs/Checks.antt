@@ -22,17 +22,20 @@ differ-is false true = refl
 differ-is false false = refl
 
 pub root-changed : (number before status : ℕ) → number ≡ 1 → bit C-PORT-CONNECTION status ≡ false
-    → (a b : Bool) → a ≡ bit PORT-CONNECTION before → b ≡ bit PORT-CONNECTION status → not (Bool·beq a b) ≡ isChanged number before status
+    → (a b : Bool) → a ≡ bit PORT-CONNECTION before → b ≡ bit PORT-CONNECTION status
+    → not (Bool·beq a b) ≡ isChanged number before status
 unfolding isChanged
 root-changed number before status r c a b ea eb = rw (c, eq-eqb number 1 r, ← ea, ← eb) (differ-is a b)
 
 -- ---- the first read, and the changes that are cleared
 
-module _ (hub port : ℕ) {w u v : World} (read : Ends (hubPortGetStatus hub port) w Ok tt u) (status : ℕ) (is : status ≡ numberAt (u .store) hub (PortStatus port) 4)
+module _ (hub port : ℕ) {w u v : World} (read : Ends (hubPortGetStatus hub port) w Ok tt u)
+    (status : ℕ) (is : status ≡ numberAt (u .store) hub (PortStatus port) 4)
     (cleared : Ends (clearChanges hub port status) u Ok tt v) where
   pub found : (dropped : Bool) → dropped ≡ isDropped status (byteAt (v .store) hub (Child port))
-      → (changed : Bool) → changed ≡ isChanged (byteAt (u .store) hub Number) (numberAt (w .store) hub (PortStatus port) 4) status
+      → (number before : ℕ) → number ≡ byteAt (u .store) hub Number → before ≡ numberAt (w .store) hub (PortStatus port) 4
+      → (changed : Bool) → changed ≡ isChanged number before status
       → Ends (startCheck hub port) w Ok (record { status = status; dropped = dropped; changed = changed }) v
   unfolding startCheck portStatus
-  found dropped d changed c =
-      rw (d, c) (got-number _ _ _ _ (next read (got-number-as _ _ _ _ is (got _ _ _ (next cleared (got _ _ _ (returned _ (cleared .fit))))))))
+  found dropped d number before n b changed c =
+      rw (d, c, n, b) (got-number _ _ _ _ (next read (got-number-as _ _ _ _ is (got _ _ _ (next cleared (got _ _ _ (returned _ (cleared .fit))))))))

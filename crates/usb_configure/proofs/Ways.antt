@@ -14,7 +14,7 @@ use Rattle.usb_store.specs.Values.{Addressed}
 use Rattle.usb_store.proofs.Writes.{part-back}
 use Rattle.usb_model.specs.declared.Progress.{Progress}
 use Rattle.usb_model.specs.Programs.{_>>=_, _>>_, throw, look, change, succeed, when}
-use Rattle.usb_model.specs.World.{World, M, get, getBytes, getNumber, put, putBytes}
+use Rattle.usb_model.specs.World.{World, M, get, getBytes, getNumber, putBytes}
 use Rattle.usb_model.specs.Walk.{RecordLength, walk}
 use Rattle.usb_model.specs.Usbd.{usbConfigure}
 use Rattle.usb_walk.specs.Steps.{endsWith}
@@ -31,8 +31,8 @@ lent s place = take (span place) (drop (offset place Interfaces) s)
 
 module _ (s s₁ l o : List ℕ) (at : Progress) (place configuration : ℕ) (full kept : List ℕ) (a : Answer)
     (e₁ : s₁ ≡ withBytes s place ConfigurationIndex (configuration ∷ [])) (f : Fit (here s l o at)) where
-  walked : (s₂ : List ℕ) → endsWith a kept ≡ walk full (bytesAt s₁ place Interfaces RecordLength) → s₂ ≡ withBytes s₁ place Interfaces kept
-      → Ends (walkFull place configuration full) (here s l o at) a tt (here s₂ l o at)
+  walked : (s₂ : List ℕ) → endsWith a kept ≡ walk full (bytesAt s₁ place Interfaces RecordLength)
+      → s₂ ≡ withBytes s₁ place Interfaces kept → Ends (walkFull place configuration full) (here s l o at) a tt (here s₂ l o at)
   unfolding walkFull
   walked s₂ w e₂ =
       put-then _ _ _ s₁ e₁
@@ -41,7 +41,8 @@ module _ (s s₁ l o : List ℕ) (at : Progress) (place configuration : ℕ) (fu
 
   -- the record was lent to the walk
   pub walked-part : place < Places → length kept ≡ length (lent s₁ place) → endsWith a kept ≡ walk full (lent s₁ place)
-      → Ends (walkFull place configuration full) (here s l o at) a tt (here (take (offset place Interfaces) s₁ ++ (kept ++ drop (span place) (drop (offset place Interfaces) s₁))) l o at)
+      → Ends (walkFull place configuration full) (here s l o at) a tt
+      (here (take (offset place Interfaces) s₁ ++ (kept ++ drop (span place) (drop (offset place Interfaces) s₁))) l o at)
   unfolding bytesAt withBytes
   walked-part h long w =
       let start : ℕ = offset place Interfaces in
@@ -59,8 +60,9 @@ inParts place configuration = do
   configureFull place configuration total
 
 same-run : (place configuration : ℕ) (w : World) → usbConfigure place configuration w ≡ inParts place configuration w
-unfolding usbConfigure inParts readHead configureFull configureWith walkFull get getNumber getBytes put putBytes look change succeed _>>=_ _>>_
+unfolding usbConfigure inParts readHead configureFull configureWith walkFull get getNumber getBytes putBytes look change succeed _>>=_ _>>_
 same-run place configuration w = refl
 
-pub in-parts : (place configuration : ℕ) {w v : World} {a : Answer} → Ends (inParts place configuration) w a tt v → Ends (usbConfigure place configuration) w a tt v
+pub in-parts : (place configuration : ℕ) {w v : World} {a : Answer} → Ends (inParts place configuration) w a tt v
+    → Ends (usbConfigure place configuration) w a tt v
 in-parts place configuration r = record { is = same-run place configuration _ ∙ r .is; fit = r .fit }

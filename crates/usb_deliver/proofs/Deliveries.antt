@@ -28,12 +28,14 @@ none-part Ok o t n = tt
 none-part (Error e) o t n = refl
 none-part (Stop h) o t n = refl
 
-enough-part : (a : Answer) (o : List ℕ) (t n minimum : ℕ) → Given a o t n → Enough a minimum n → Enough a minimum (length (partOf a o t n))
+enough-part : (a : Answer) (o : List ℕ) (t n minimum : ℕ) → Given a o t n → Enough a minimum n
+    → Enough a minimum (length (partOf a o t n))
 enough-part Ok o t n minimum g e = rw (data-length o t n g) e
 enough-part (Error x) o t n minimum g e = tt
 enough-part (Stop h) o t n minimum g e = tt
 
-pub delivers : (m : M (List ℕ)) (w : World) (a : Answer) (minimum n : ℕ) (v : World) (bytes : List ℕ) → Gives m w a n v → Enough a minimum n → bytes ≡ partOf a (w .outcomes) (w .at .taken) n → Delivered m minimum w a bytes v
+pub delivers : (m : M (List ℕ)) (w : World) (a : Answer) (minimum n : ℕ) (v : World) (bytes : List ℕ) → Gives m w a n v
+    → Enough a minimum n → bytes ≡ partOf a (w .outcomes) (w .at .taken) n → Delivered m minimum w a bytes v
 delivers m w a minimum n v bytes g h e = subst (λ (bs : List ℕ). Delivered m minimum w a bs v) (sym e) (record {
   ends = record { is = g .ends .is ∙ gave-part a (w .outcomes) (w .at .taken) n v; fit = g .ends .fit };
   none = none-part a (w .outcomes) (w .at .taken) n;

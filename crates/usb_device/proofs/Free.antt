@@ -1,19 +1,20 @@
 -- The places that are not used: which is the first, and how many there are. Assumes nothing.
-use mathlib.Core.Path.{_≡_, refl, sym, ap, _∙_}
-use mathlib.Core.Bool.{Bool, true, false, cond}
-use mathlib.Core.Logic.{inl, inr, _≢_}
+use mathlib.Core.Path.{_≡_, refl, ap, _∙_}
+use mathlib.Core.Bool.{Bool, true, false, cond, not}
+use mathlib.Core.Logic.{inr, _≢_}
 use mathlib.Core.List.{List}
 use Prim.Native.Nat.{ℕ, zero, suc, _+_, _≤_, _<_}
 use native.Mathlib.Nat.{zero-add}
 use native.Mathlib.Omega.{arith}
 use native.Mathlib.Decide.{ℕ-discrete, decLt}
-use borrow.Author.Tests.{eqb-true, eqb-false, eq-eqb, ne-eqb}
+use borrow.Author.Tests.{eqb-true, eqb-false}
 use lib.Dec.{eqb}
 use lib.ListN.{length, getD}
 use Rattle.usb_store.specs.Layout.{Used}
 use Rattle.usb_store.specs.Access.{byteAt, withBytes}
-use Rattle.usb_store.proofs.Fields.{Apart, byte-other, bytes-same, byte-of-bytes}
-use Rattle.usb_device.specs.Device.{newDevice, firstUnused, firstUnusedFrom, freeBelow, freePlaces}
+use Rattle.usb_store.proofs.Fields.{bytes-same, byte-of-bytes}
+use Rattle.usb_store.proofs.Cells.{byte-beside, other-place}
+use Rattle.usb_device.specs.Device.{placesBelow, newDevice, firstUnused, firstUnusedFrom, freePlaces}
 use Rattle.usb_device.proofs.NewDevice.{length-new}
 
 -- ---- the first
@@ -75,48 +76,49 @@ one-most : (b : Bool) → cond {A = ℕ} b 1 0 ≤ 1
 one-most true = omega arith
 one-most false = omega arith
 
-below-most : (s : List ℕ) (n : ℕ) → freeBelow s n ≤ n
-unfolding freeBelow
-below-most s zero = omega arith
-below-most s (suc n) = omega (arith, below-most s n, one-most (eqb (byteAt s n Used) 0))
+below-most : (test : ℕ → Bool) (n : ℕ) → placesBelow test n ≤ n
+unfolding placesBelow
+below-most test zero = omega arith
+below-most test (suc n) = omega (arith, below-most test n, one-most (test n))
 
 pub free-most : (s : List ℕ) → freePlaces s ≤ 32
-free-most s = below-most s 32
+free-most s = below-most (λ place. eqb (byteAt s place Used) 0) 32
 
-module _ (s t : List ℕ) where
-  -- stores that agree on which places are used have as many free ones
-  pub free-agree : (n : ℕ) → ((p : ℕ) → p < n → byteAt t p Used ≡ byteAt s p Used) → freeBelow t n ≡ freeBelow s n
-  unfolding freeBelow
-  free-agree zero same = refl
-  free-agree (suc n) same = rw (same n (omega arith), free-agree n (λ p h. same p (omega arith)))
+-- a place passes a test or its contrary
+pub count-not : (test : ℕ → Bool) (n : ℕ) → placesBelow test n + placesBelow (λ p. not (test p)) n ≡ n
+unfolding placesBelow
+count-not test zero = refl
+count-not test (suc n) = omega (arith, count-not test n, one (test n))
+  where
+    one : (b : Bool) → cond {A = ℕ} b 1 0 + cond (not b) 1 0 ≡ 1
+    one true = refl
+    one false = refl
 
-  -- where one more place is used there is one free place less
-  pub free-less : (p n : ℕ) → p < n → byteAt s p Used ≡ 0 → byteAt t p Used ≢ 0
-      → ((q : ℕ) → q < n → q ≢ p → byteAt t q Used ≡ byteAt s q Used)
-      → freeBelow t n + 1 ≡ freeBelow s n
-  unfolding freeBelow
-  free-less p zero h was is same = absurd (omega arith)
-  free-less p (suc n) h was is same =
-      go (ℕ-discrete n p) (λ l. free-less p n l was is (λ q k d. same q (omega arith) d))
+module _ (f g : ℕ → Bool) where
+  -- tests that agree count the same
+  pub count-agree : (n : ℕ) → ((p : ℕ) → p < n → g p ≡ f p) → placesBelow g n ≡ placesBelow f n
+  unfolding placesBelow
+  count-agree zero same = refl
+  count-agree (suc n) same = rw (same n (omega arith), count-agree n (λ p h. same p (omega arith)))
+
+  -- and where they agree but for one place, its part makes the difference
+  pub count-one : (p n : ℕ) → p < n → ((q : ℕ) → q < n → q ≢ p → g q ≡ f q)
+      → placesBelow g n + cond (f p) 1 0 ≡ placesBelow f n + cond (g p) 1 0
+  unfolding placesBelow
+  count-one p zero h same = absurd (omega arith)
+  count-one p (suc n) h same = go (ℕ-discrete n p) (λ l. count-one p n l (λ q k d. same q (omega arith) d))
     where
-      go : Dec (n ≡ p) → (p < n → freeBelow t n + 1 ≡ freeBelow s n)
-          → cond {A = ℕ} (eqb (byteAt t n Used) 0) 1 0 + freeBelow t n + 1 ≡ cond (eqb (byteAt s n Used) 0) 1 0 + freeBelow s n
+      go : Dec (n ≡ p) → (p < n → placesBelow g n + cond (f p) 1 0 ≡ placesBelow f n + cond (g p) 1 0)
+          → cond (g n) 1 0 + placesBelow g n + cond (f p) 1 0 ≡ cond (f n) 1 0 + placesBelow f n + cond (g p) 1 0
       go (yes e) less =
-          let new : eqb (byteAt t n Used) 0 ≡ false = ne-eqb (byteAt t n Used) 0 (λ z. is (ap (λ (k : ℕ). byteAt t k Used) (sym e) ∙ z)) in
-          let old : eqb (byteAt s n Used) 0 ≡ true = eq-eqb (byteAt s n Used) 0 (ap (λ (k : ℕ). byteAt s k Used) e ∙ was) in
-          let rest : freeBelow t n ≡ freeBelow s n = free-agree n (λ q l. same q (omega arith) (λ z. omega arith)) in
-          rw (new, old) (omega arith)
-      go (no ne) less =
-          let rest : freeBelow t n + 1 ≡ freeBelow s n = less (omega arith) in
-          rw (same n (omega arith) ne) (omega arith)
+          let rest = count-agree n (λ q l. same q (omega arith) (λ z. omega arith)) in
+          rw e (omega (arith, rw e at rest))
+      go (no ne) less = rw (same n (omega arith) ne) (omega (arith, less (omega arith)))
 
 -- a write past the first byte of a place frees no place and takes none
 pub free-field : (s : List ℕ) (p f : ℕ) (vs : List ℕ) → 0 < f → f + length vs ≤ 1152 → freePlaces (withBytes s p f vs) ≡ freePlaces s
-free-field s p f vs above room = free-agree s (withBytes s p f vs) 32 (λ q h. byte-other s p f vs q Used (apart q (decLt p q)))
-  where
-    apart : (q : ℕ) → Dec (p < q) → Apart p f (length vs) q Used 1
-    apart q (yes l) = inl (omega arith)
-    apart q (no l) = inr (omega arith)
+free-field s p f vs above room =
+    count-agree _ _ 32 (λ q h. ap (λ (v : ℕ). eqb v 0) (byte-beside s p f vs q Used room (omega arith) (λ _. inr above)))
 
 -- a byte of a new device
 pub new-byte : (s : List ℕ) (p f : ℕ) → length s ≡ 36864 → p < 32 → f < 1152
@@ -125,6 +127,10 @@ unfolding newDevice
 new-byte s p f whole inside h =
     rw zero-add at (byte-of-bytes (withBytes s p 0 (newDevice p)) p 0 1152 f h)
     ∙ ap (λ (l : List ℕ). getD l f 0) (bytes-same s p 0 (newDevice p) (record { whole = whole; inside = inside; room = omega (arith, length-new p) }))
+
+-- and of every other place
+pub new-elsewhere : (s : List ℕ) (p q f : ℕ) → f < 1152 → q ≢ p → byteAt (withBytes s p 0 (newDevice p)) q f ≡ byteAt s q f
+new-elsewhere s p q f l n = other-place s p 0 (newDevice p) q f (omega (arith, length-new p)) l n
 
 -- the place of a new device is used
 pub new-used : (s : List ℕ) (p : ℕ) → length s ≡ 36864 → p < 32 → byteAt (withBytes s p 0 (newDevice p)) p Used ≡ 1
@@ -135,9 +141,6 @@ new-used s p whole inside = new-byte s p Used whole inside (omega arith)
 pub free-taken : (s : List ℕ) (p : ℕ) → length s ≡ 36864 → p < 32 → byteAt s p Used ≡ 0
     → freePlaces (withBytes s p 0 (newDevice p)) + 1 ≡ freePlaces s
 free-taken s p whole inside was =
-    free-less s (withBytes s p 0 (newDevice p)) p 32 inside was (λ z. omega (arith, new-used s p whole inside))
-    (λ q h ne. byte-other s p 0 (newDevice p) q Used (apart q ne (decLt p q)))
-  where
-    apart : (q : ℕ) → q ≢ p → Dec (p < q) → Apart p 0 (length (newDevice p)) q Used 1
-    apart q ne (yes l) = inl (omega (arith, length-new p))
-    apart q ne (no l) = inr (omega (arith, ne))
+    let one = count-one (λ q. eqb (byteAt s q Used) 0) (λ q. eqb (byteAt (withBytes s p 0 (newDevice p)) q Used) 0) p 32 inside
+    (λ q h ne. ap (λ (v : ℕ). eqb v 0) (new-elsewhere s p q Used (omega arith) ne)) in
+    omega (arith, rw (was, new-used s p whole inside) at one)

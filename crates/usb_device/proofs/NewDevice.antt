@@ -1,18 +1,49 @@
 -- What new_device builds is the new device, byte for byte. Assumes nothing.
-use mathlib.Core.Path.{_≡_, refl, ap, _∙_}
+use mathlib.Core.Path.{_≡_, refl, sym, ap, _∙_}
+use mathlib.Core.Logic.{_⊎_, ⊎-elim}
 use mathlib.Core.List.{List, _++_}
-use Prim.Native.Nat.{ℕ, _+_, _*_, _-_, _<_}
+use Prim.Native.Nat.{ℕ, _+_, _*_, _-_, _≤_, _<_}
 use native.Mathlib.Nat.{add-zero}
 use native.Mathlib.Omega.{arith}
-use lib.ListN.{length, take, drop, set, replicate}
-use Rattle.usb_store.specs.Layout.{Places, PlaceLength, StoreLength}
+use lib.ListN.{length, getD, take, drop, set, replicate, getD-replicate}
+use lib.Seq.{getD-take, getD-drop}
+use Rattle.usb_store.specs.Layout.{Places, PlaceLength, StoreLength, Used, Number, Speed, Status, Parent, Hub, Error}
 use Rattle.usb_store.specs.Access.{withBytes}
+use Rattle.usb_store.specs.Values.{Full, Attached, NoHub}
 use Rattle.usb_store.proofs.Writes.{part-back}
 use Rattle.usb_device.specs.Device.{newDevice, marked}
 
 pub length-new : (place : ℕ) → length (newDevice place) ≡ 1152
 unfolding newDevice
 length-new place = refl
+
+-- the bytes at its start
+pub record NewBytes (p : ℕ) : Type 0 where
+  pub used : getD (newDevice p) Used 0 ≡ 1
+  pub number : getD (newDevice p) Number 0 ≡ p + 1
+  pub speed : getD (newDevice p) Speed 0 ≡ Full
+  pub status : getD (newDevice p) Status 0 ≡ Attached
+  pub parent : getD (newDevice p) Parent 0 ≡ 0
+  pub hub : getD (newDevice p) Hub 0 ≡ NoHub
+
+pub new-bytes : (p : ℕ) → NewBytes p
+unfolding newDevice
+new-bytes p = record { used = refl; number = refl; speed = refl; status = refl; parent = refl; hub = refl }
+
+zero-run : (l : List ℕ) (a n : ℕ) → take n (drop a l) ≡ replicate n 0 → (g : ℕ) → a ≤ g → g < a + n → getD l g 0 ≡ 0
+zero-run l a n e g x y =
+    let i : g ≡ a + (g - a) = omega arith in
+    ap (λ (k : ℕ). getD l k 0) i ∙ sym (getD-drop a l (g - a) 0) ∙ sym (getD-take n (drop a l) (g - a) 0 (omega arith))
+    ∙ ap (λ (m : List ℕ). getD m (g - a) 0) e ∙ getD-replicate n (g - a) 0 0 (omega arith)
+
+pub new-error : (p i : ℕ) → i < 4 → getD (newDevice p) (Error + i) 0 ≡ 0
+unfolding newDevice
+new-error p i l = zero-run (newDevice p) Error 4 refl (Error + i) (omega arith) (omega arith)
+
+-- no hub data, and the bytes that are not used
+pub new-zero : (p g : ℕ) → g < 1152 → ((43 ≤ g) × (g < 128)) ⊎ (1096 ≤ g) → getD (newDevice p) g 0 ≡ 0
+unfolding newDevice
+new-zero p g l = ⊎-elim (λ h. zero-run (newDevice p) 43 85 refl g (h .0) (h .1)) (λ h. zero-run (newDevice p) 1096 56 refl g h l)
 
 -- zeros, with the single bytes
 abbrev singles : ℕ → List ℕ → List ℕ

@@ -1,6 +1,6 @@
 -- A new device, and the places that are not used (document 01, "a new place holds `UsbDevice::new` as `UsbAllocateDevice`
 -- amends it"; usbd/device.rs).
-use mathlib.Core.Bool.{cond}
+use mathlib.Core.Bool.{Bool, cond}
 use mathlib.Core.List.{List, [], _∷_, _++_}
 use Prim.Native.Nat.{ℕ, zero, suc, _+_, _-_}
 use lib.Dec.{eqb}
@@ -38,14 +38,14 @@ firstUnusedFrom s (suc n) p = cond (eqb (byteAt s p Used) 0) p (firstUnusedFrom 
 abbrev pub firstUnused : List ℕ → ℕ
 firstUnused s = firstUnusedFrom s Places 0
 
--- how many of the first n places are not used
-unfoldable pub freeBelow : List ℕ → ℕ → ℕ
-freeBelow s zero = 0
-freeBelow s (suc n) = cond (eqb (byteAt s n Used) 0) 1 0 + freeBelow s n
+-- how many of the first n places pass a test
+unfoldable pub placesBelow : (ℕ → Bool) → ℕ → ℕ
+placesBelow test zero = 0
+placesBelow test (suc n) = cond (test n) 1 0 + placesBelow test n
 
 -- how many places are not used
 abbrev pub freePlaces : List ℕ → ℕ
-freePlaces s = freeBelow s Places
+freePlaces s = placesBelow (λ place. eqb (byteAt s place Used) 0) Places
 
 -- n bytes set to 1, one every step bytes from first on
 unfoldable pub marked : List ℕ → ℕ → ℕ → ℕ → List ℕ

@@ -52,7 +52,8 @@ parts-next : {A B : Type 0} (m : M A) (k : M B) (w : World) (y : B) (v : World) 
 unfolding _>>=_ _>>_
 parts-next m k w y v e = parts m (λ _. k) w y v e
 
-walked-to : {u : World} {n : ℕ} {A : Type 0} {Q : A → Type 0} {m : M A} {w v : World} {x : A} → Walks u n m Q → Reach u n w → m w ≡ done x v → Reach u n v
+walked-to : {u : World} {n : ℕ} {A : Type 0} {Q : A → Type 0} {m : M A} {w v : World} {x : A}
+    → Walks u n m Q → Reach u n w → m w ≡ done x v → Reach u n v
 walked-to {u} {n} {A} {Q} {m} {w} {v} {x} h r e = left-holds (subst (λ (s : Ran World A). Left (Reach u n) Q s) e (h .run w r))
 
 -- a place was allocated: it is the first that was not used, and now it is
@@ -94,7 +95,9 @@ born hub port place {w} {v} b l e =
     let taken = parts _ _ (reset .middle) place v (reset .last) in
     let new = allocated-at (reset .middle) (taken .value) (taken .middle) (here .good) (taken .first) in
     let put = parts-next _ _ (taken .middle) place v (taken .last) in
-    let there : Reach (taken .middle) (taken .value + 1) (put .middle) = walked-to (places hub port (taken .value) l (omega (arith, here .used, new .is)) (omega arith) (new .inside)) (reach-here (taken .middle) (new .good) (new .used)) (put .first) in
+    let there : Reach (taken .middle) (taken .value + 1) (put .middle) =
+    walked-to (places hub port (taken .value) l (omega (arith, here .used, new .is)) (omega arith) (new .inside))
+    (reach-here (taken .middle) (new .good) (new .used)) (put .first) in
     let same : taken .value ≡ place = ap (valueOf 0) (put .last) in
     let end : put .middle ≡ v = ap endOf (put .last) in
     let reached : Reach (taken .middle) (taken .value + 1) v = subst (Reach (taken .middle) (taken .value + 1)) end there in
@@ -104,13 +107,18 @@ born hub port place {w} {v} b l e =
     }
 
 -- the root hub: a place is taken, and it has its speed and its power
-pub root-born : (place speed : ℕ) (s s₁ s₂ : List ℕ) {w : World} {l o : List ℕ} {at : Progress} → Good w → speed < 256 → Ends usbAllocateDevice w Ok place (here s l o at)
+pub root-born : (place speed : ℕ) (s s₁ s₂ : List ℕ) {w : World} {l o : List ℕ} {at : Progress}
+    → Good w → speed < 256 → Ends usbAllocateDevice w Ok place (here s l o at)
     → s₁ ≡ withBytes s place Speed (speed ∷ []) → s₂ ≡ withBytes s₁ place Status (Powered ∷ []) → Born w place (here s₂ l o at)
 root-born place speed s s₁ s₂ {w} {l} {o} {at} g low e e₁ e₂ =
     let new = allocated-at w place (here s l o at) g (e .is) in
-    let end = put-then {l = l} {o = o} {at = at} place Speed speed s₁ e₁ (put-last place Status Powered s₂ e₂ (put-bytes-fit place Speed (speed ∷ []) s₁ e₁ (e .fit))) in
-    let walk : Walks (here s l o at) (place + 1) (put place Speed speed >> put place Status Powered) Any = next (puts place Speed speed (small Speed (omega arith) (omega arith)) low) (puts place Status Powered (small Status (omega arith) (omega arith)) (omega arith)) in
-    let r : Reach (here s l o at) (place + 1) (here s₂ l o at) = reached (walk .run (here s l o at) (reach-here (here s l o at) (new .good) (new .used))) end in
+    let fit = put-bytes-fit place Speed (speed ∷ []) s₁ e₁ (e .fit) in
+    let end = put-then {l = l} {o = o} {at = at} place Speed speed s₁ e₁ (put-last place Status Powered s₂ e₂ fit) in
+    let v = here s l o at in
+    let walk : Walks v (place + 1) (put place Speed speed >> put place Status Powered) Any =
+    next (puts place Speed speed (small Speed (omega arith) (omega arith)) low)
+    (puts place Status Powered (small Status (omega arith) (omega arith)) (omega arith)) in
+    let r : Reach v (place + 1) (here s₂ l o at) = reached (walk .run v (reach-here v (new .good) (new .used))) end in
     record {
       bus = record { fit = end .fit; good = r .good; used = omega (arith, r .used); inside = new .inside };
       free = omega (arith, r .onward .free, new .free);

@@ -6,7 +6,8 @@ use Rattle.usb_model.specs.World.{World}
 use Rattle.usb_model.proofs.Keeps.{bind, next, gives, throws, succeeds, attempts, ignores, whens}
 use Rattle.usb_model.proofs.Walks.{Goes}
 use Rattle.usb_model.proofs.Primitives.{gets, puts, puts-most, puts-child, waits, frames}
-use Rattle.usb_model.proofs.Functions.{small, read-device-descriptor, set-address, configures, read-hub-descriptor, get-status, change-feature, power-on, port-get-status, port-status, reset2, speed-low}
+use Rattle.usb_model.proofs.Functions.{small, read-device-descriptor, set-address, configures, read-hub-descriptor, get-status}
+use Rattle.usb_model.proofs.Functions.{change-feature, power-on, port-get-status, port-status, reset2, speed-listed}
 use Rattle.usb_attach.specs.Parts.{defaultState, addressed, described, enumerated}
 use Rattle.usb_hub_attach.specs.Parts.{hubDescribed, hubPowered, hubReady}
 use Rattle.usb_child.specs.Parts.{startChange, resetChanged, placeChild}
@@ -57,6 +58,6 @@ module _ {u : World} {n : ℕ} where
       next (puts-child hub port _ l (omega arith) (omega arith)) (
       next (port-get-status hub port l) (
       bind (port-status hub port) λ after _.
-      next (puts place Speed _ (small Speed (omega arith) (omega arith)) (speed-low after)) (
+      next (puts place Speed _ (small Speed (omega arith) (omega arith)) (omega (arith, speed-listed after))) (
       next (puts place Parent _ (small Parent (omega arith) (omega arith)) (omega arith))
       (puts place PortNumber _ (small PortNumber (omega arith) (omega arith)) (omega arith)))))

@@ -1,3 +1,4 @@
+pub mod Cycles
 pub mod Lines
 pub mod Goes
 pub mod Reaches

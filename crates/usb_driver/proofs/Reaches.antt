@@ -28,7 +28,8 @@ left-gave Ok x v = refl
 left-gave (Error e) x v = refl
 left-gave (Stop h) x v = refl
 
-pub reached : {u : World} {n : ℕ} {A : Type 0} {Q : A → Type 0} {m : M A} {w v : World} {a : Answer} {x : A} → Left (Reach u n) Q (m w) → Ends m w a x v → Reach u n v
+pub reached : {u : World} {n : ℕ} {A : Type 0} {Q : A → Type 0} {m : M A} {w v : World} {a : Answer} {x : A}
+    → Left (Reach u n) Q (m w) → Ends m w a x v → Reach u n v
 reached {u} {n} {A} {Q} {m} {w} {v} {a} {x} h e =
     subst (Reach u n) (left-gave a x v) (left-holds (subst (λ (r : Ran World A). Left (Reach u n) Q r) (e .is) h))
 
@@ -40,12 +41,14 @@ pub record After (place : ℕ) (w v : World) : Type 0 where
 abbrev pub at-place : {place : ℕ} {w : World} → Bus place w → Reach w (place + 1) w
 at-place {place} {w} b = reach-here w (b .good) (omega (arith, b .used))
 
-pub after : {place : ℕ} {A : Type 0} {Q : A → Type 0} {m : M A} {w v : World} {a : Answer} {x : A} → Bus place w → Left (Reach w (place + 1)) Q (m w) → Ends m w a x v → After place w v
+pub after : {place : ℕ} {A : Type 0} {Q : A → Type 0} {m : M A} {w v : World} {a : Answer} {x : A}
+    → Bus place w → Left (Reach w (place + 1)) Q (m w) → Ends m w a x v → After place w v
 after {place} {w = w} {v = v} b h e =
     let r : Reach w (place + 1) v = reached h e in
     record { bus = record { fit = e .fit; good = r .good; used = omega (arith, r .used); inside = b .inside }; free = r .onward .free }
 
-walked : {place : ℕ} {A : Type 0} {Q : A → Type 0} {m : M A} {w v : World} {a : Answer} {x : A} → Bus place w → Walks w (place + 1) m Q → Ends m w a x v → After place w v
+walked : {place : ℕ} {A : Type 0} {Q : A → Type 0} {m : M A} {w v : World} {a : Answer} {x : A}
+    → Bus place w → Walks w (place + 1) m Q → Ends m w a x v → After place w v
 walked {w = w} b h e = after b (h .run w (at-place b)) e
 
 -- ---- the lines that attach no device
@@ -65,13 +68,16 @@ module _ {place : ℕ} {w v : World} {a : Answer} (b : Bus place w) where
 module _ (n : ℕ) {hub port : ℕ} {w v : World} {a : Answer} (b : Bus hub w) (l : port < 10) where
   pub changed-after : (due : Bool) → Ends (when due (ignore (hubPortConnectionChanged (attachBelow n) hub port))) w a tt v → After hub w v
   changed-after due e =
-      after b (whens₂ due (λ _. ignores₂ (connection-changed (attachBelow n) (attachBelow n) (λ u _. attach-walks n u) hub port (omega arith) l)) .run w (at-place b) .walk) e
+      after b (whens₂ due (λ _. ignores₂ (connection-changed (attachBelow n) (attachBelow n) (λ u _. attach-walks n u) hub port (omega arith) l))
+      .run w (at-place b) .walk) e
 
   pub checked-after : Ends (hubCheckConnection (attachBelow n) hub port) w a tt v → After hub w v
-  checked-after e = after b (check-connection (attachBelow n) (attachBelow n) (λ u _. attach-walks n u) hub port (omega arith) l .run w (at-place b) .walk) e
+  checked-after e =
+      after b (check-connection (attachBelow n) (attachBelow n) (λ u _. attach-walks n u) hub port (omega arith) l .run w (at-place b) .walk) e
 
 -- a device is attached where a place was taken, so the number is not zero
-pub at-fuel : (place free n : ℕ) {w v : World} {a : Answer} → free < n → ((m : ℕ) → free ≤ m → Ends (usbAttachDevice (attachBelow m) place) w a tt v) → Ends (attachBelow n place) w a tt v
+pub at-fuel : (place free n : ℕ) {w v : World} {a : Answer} → free < n
+    → ((m : ℕ) → free ≤ m → Ends (usbAttachDevice (attachBelow m) place) w a tt v) → Ends (attachBelow n place) w a tt v
 unfolding attachBelow
 at-fuel place free zero h f = absurd (omega arith)
 at-fuel place free (suc m) h f = f m (omega arith)

@@ -38,7 +38,8 @@ module _ (l : Lent) (hub : ℕ) (bad : Bool) where
   unfolding hubVerdict
   last-test = go (wrongLength l) (damaged l) (noHub l hub) bad
     where
-      go : (a b c d : Bool) → ((refusedIf a BadArgument elseIf refusedIf b StoreDamaged elseIf refusedIf (c || false) BadArgument) elseIf refusedIf d BadArgument)
+      go : (a b c d : Bool)
+          → ((refusedIf a BadArgument elseIf refusedIf b StoreDamaged elseIf refusedIf (c || false) BadArgument) elseIf refusedIf d BadArgument)
           ≡ (refusedIf a BadArgument elseIf refusedIf b StoreDamaged elseIf refusedIf (c || d) BadArgument)
       go true b c d = refl
       go false true c d = refl

@@ -22,11 +22,13 @@ use Rattle.usb_message.proofs.Messages.{data-length}
 use Rattle.usb_enumerate.specs.Parts.{placed}
 
 -- a read of which only the number of bytes is given
-pub counted : (m : M (List ℕ)) (w v : World) (a : Answer) (n : ℕ) → Gives m w a n v → EndsSo (Given a (w .outcomes) (w .at .taken) n) (m >>= (λ bytes. return (length bytes))) w a n v
+pub counted : (m : M (List ℕ)) (w v : World) (a : Answer) (n : ℕ) → Gives m w a n v
+    → EndsSo (Given a (w .outcomes) (w .at .taken) n) (m >>= (λ bytes. return (length bytes))) w a n v
 unfolding NotOk
 counted m w v Ok n g =
     let long : length (dataOf (w .outcomes) (w .at .taken) n) ≡ n = data-length (w .outcomes) (w .at .taken) n (g .given) in
-    record { ends = bound _ (g .ends) (subst (λ (k : ℕ). Ends (return (length (dataOf (w .outcomes) (w .at .taken) n))) v Ok k v) long (returned _ (g .ends .fit))); so = g .given }
+    let counts = subst (λ (k : ℕ). Ends (return (length (dataOf (w .outcomes) (w .at .taken) n))) v Ok k v) long (returned _ (g .ends .fit)) in
+    record { ends = bound _ (g .ends) counts; so = g .given }
 counted m w v (Error e) n g = record { ends = bound-ended _ _ (g .ends) tt; so = g .given }
 counted m w v (Stop h) n g = record { ends = bound-ended _ _ (g .ends) tt; so = g .given }
 

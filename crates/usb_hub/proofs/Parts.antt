@@ -1,5 +1,6 @@
 -- The ways through the functions of a hub, over plain values. Assumes nothing.
 use mathlib.Core.Path.{_≡_, refl, sym, ap, _∙_}
+use mathlib.Core.List.{List}
 use Prim.Native.Nat.{ℕ, _*_}
 use borrow.Author.Tests.{eq-eqb, ne-eqb}
 use Rattle.usb_types.specs.declared.types.Halt.{Halt}
@@ -8,7 +9,7 @@ use Rattle.usb_types.specs.declared.types.Answer.the-variants.{Ok, Error, Stop}
 use Rattle.usb_model.specs.Programs.{on, _>>_, skip, caught, attempt, ignore}
 use Rattle.usb_model.specs.World.{World, M}
 use Rattle.usb_transfer.specs.declared.log.Step.{Step}
-use Rattle.usb_transfer.specs.Runs.{gave, Ends}
+use Rattle.usb_transfer.specs.Runs.{here, gave, Ends}
 use Rattle.usb_transfer.proofs.Steps.{NotStop}
 use Rattle.usb_hub.specs.Parts.{passed, ignored, powerDelay}
 
@@ -34,6 +35,11 @@ ignores {v = v} {a = a} d = record { is = ap (λ r. on (caught r) (λ _. skip)) 
     go Ok = refl
     go (Error e) = refl
     go (Stop h) = refl
+
+-- where the code holds the step that is kept
+pub ignores-as : {m : M (Unit {0})} {w : World} {s l o : List ℕ} {step kept : Step} → kept ≡ ignored step
+    → Ends m w (step .answer) tt (here s l o (step .at)) → Ends (ignore m) w (kept .answer) tt (here s l o (kept .at))
+ignores-as e d = rw e (ignores d)
 
 -- ---- requests and waits
 

@@ -22,10 +22,12 @@ all-hold true false true e = (refl, refl, refl)
 
 module _ (hub : ℕ) {w : World} where
   -- all three tests hold: the rest runs
-  pub fits : {a : Answer} {v : World} → hubEndpoint (w .store) hub ≡ true → Ends (hubDescribed hub >> hubPowered hub) w a tt v → Ends (hubReady hub) w a tt v
+  pub fits : {a : Answer} {v : World} → hubEndpoint (w .store) hub ≡ true → Ends (hubDescribed hub >> hubPowered hub) w a tt v
+      → Ends (hubReady hub) w a tt v
   unfolding hubEndpoint hubReady
   fits e r =
-      let hold = all-hold (eqb (byteAt (w .store) hub EndpointCount) 1) (ltb (byteAt (w .store) hub EndpointAddress) 128) (eqb (byteAt (w .store) hub EndpointAttributes % 4) 3) e in
+      let byte = byteAt (w .store) hub in
+      let hold = all-hold (eqb (byte EndpointCount) 1) (ltb (byte EndpointAddress) 128) (eqb (byte EndpointAttributes % 4) 3) e in
       got _ _ _ (unless _ (ap not (hold .0)) (got _ _ _ (unless _ (hold .1) (got _ _ _ (unless _ (ap not (hold .2)) r)))))
 
   -- the first test that does not hold ends the run

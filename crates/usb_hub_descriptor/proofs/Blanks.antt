@@ -17,7 +17,8 @@ use Rattle.usb_transfer.specs.Runs.{here, Ends}
 use Rattle.usb_hub_descriptor.specs.Parts.{withBlank}
 
 module _ (s : List ℕ) (hub b : ℕ) (is : b ≡ byteAt s hub Hub) where
-  pub blank-put : b ≡ WithoutDescriptor → (s₁ s₂ : List ℕ) → s₁ ≡ withByte s hub Hub WithDescriptor → s₂ ≡ withBytes s₁ hub HubDescriptor (blank 9) → s₂ ≡ withBlank s hub
+  pub blank-put : b ≡ WithoutDescriptor → (s₁ s₂ : List ℕ) → s₁ ≡ withByte s hub Hub WithDescriptor
+      → s₂ ≡ withBytes s₁ hub HubDescriptor (blank 9) → s₂ ≡ withBlank s hub
   unfolding withBlank
   blank-put e s₁ s₂ e₁ e₂ = rw (eq-eqb (byteAt s hub Hub) WithoutDescriptor (sym is ∙ e), e₂, e₁) refl
 
@@ -27,8 +28,9 @@ module _ (s : List ℕ) (hub b : ℕ) (is : b ≡ byteAt s hub Hub) where
 
 pub blanked : {B : Type 0} {s l o : List ℕ} {at : Progress} (hub : ℕ) (s′ : List ℕ) → s′ ≡ withBlank s hub
     → {k : M B} {v : World} {a : Answer} {y : B} → Ends k (here s′ l o at) a y v
-    → Ends (when (eqb (byteAt s hub Hub) WithoutDescriptor) (put hub Hub WithDescriptor >> putBytes hub HubDescriptor (blank 9)) >> k) (here s l o at) a y v
-unfolding withBlank when put putBytes change skip _>>_
+    → Ends (when (eqb (byteAt s hub Hub) WithoutDescriptor) (put hub Hub WithDescriptor >> putBytes hub HubDescriptor (blank 9)) >> k)
+    (here s l o at) a y v
+unfolding withBlank when putBytes change skip _>>_
 blanked {s = s} {l} {o} {at} hub s′ e {k} {v} {a} {y} r = go (eqb (byteAt s hub Hub) WithoutDescriptor) e
   where
     go : (b : Bool) → s′ ≡ cond b (withBytes (withByte s hub Hub WithDescriptor) hub HubDescriptor (blank 9)) s

@@ -21,7 +21,7 @@ use Rattle.usb_store.specs.Access.{byteAt, withBytes, withNumber}
 use Rattle.usb_model.specs.declared.Progress.{Progress}
 use Rattle.usb_model.specs.declared.Buffer.{Buffer}
 use Rattle.usb_model.specs.Programs.{on, _>>=_, _>>_, return, look, change, succeed, ran}
-use Rattle.usb_model.specs.World.{World, get, putBytes, putNumber, logRequest}
+use Rattle.usb_model.specs.World.{World, get, putBytes, logRequest}
 use Rattle.usb_model.specs.Transfer.{takeOutcome, usbControlMessage, control, read}
 use Rattle.usb_transfer.specs.declared.outcome.Header.{Header}
 use Rattle.usb_transfer.specs.declared.outcome.NextOutcome.the-variants.{Whole, Missing}
@@ -65,7 +65,8 @@ module _ (n room : ℕ) (bytes : List ℕ) (e : n ≡ min room (length bytes)) w
       go true f g = let same : n ≡ room = omega (arith, e, f refl) in ap (λ (k : ℕ). take k bytes) same
       go false f g = let h = g refl in take-all n bytes (omega (arith, e)) ∙ sym (take-all room bytes (omega arith))
 
-pub kept-is : (s s₁ s₂ s₃ : List ℕ) (place error word n : ℕ) (bytes : List ℕ) (buffer : Buffer) → n ≡ min (buffer .room) (length bytes) → word ≡ errorWord error
+pub kept-is : (s s₁ s₂ s₃ : List ℕ) (place error word n : ℕ) (bytes : List ℕ) (buffer : Buffer)
+    → n ≡ min (buffer .room) (length bytes) → word ≡ errorWord error
     → s₁ ≡ withNumber s place Layout.Error 4 word → s₂ ≡ withBytes s₁ place (buffer .field) (take n bytes)
     → s₃ ≡ withNumber s₂ place LastTransfer 4 (length bytes) → s₃ ≡ kept s place error bytes buffer
 unfolding kept
@@ -94,19 +95,24 @@ module _ (s l o : List ℕ) (at : Progress) (place asked : ℕ) (buffer : Buffer
   unfolding receiving
   received-none x t = record { ends = record { is = bind-is (takeOutcome asked) _ _ (t .is asked _ refl) _; fit = f }; given = refl }
 
+  abbrev result : Header → Answer
+  result h = resultOf (h .submit) (h .error)
+
   pub received : (h : Header) → Takes (drop (at .taken) o) (Whole h) → (s′ : List ℕ)
       → s′ ≡ kept s place (h .error) (dataOf o (at .taken) (min (h .size) asked)) buffer → length s′ ≡ length s
-      → Gives (receiving place asked buffer) (here s l o at) (resultOf (h .submit) (h .error)) (lengthOf (resultOf (h .submit) (h .error)) (min (h .size) asked)) (here s′ l o (passed at (h .size)))
-  unfolding receiving kept _>>_ putNumber putBytes change succeed
+      → Gives (receiving place asked buffer) (here s l o at)
+      (result h) (lengthOf (result h) (min (h .size) asked)) (here s′ l o (passed at (h .size)))
+  unfolding receiving kept _>>_ putBytes change succeed
   received h t s′ e long =
       let n : ℕ = min (h .size) asked in
+      let gives = returns-given (result h) o (at .taken) n _ in
       let rest : length (drop (at .taken) o) ≡ length o - at .taken = length-drop (at .taken) o in
       record {
         ends = record {
-          is = bind-is (takeOutcome asked) _ _ (t .is asked _ refl) _ ∙ rw (drop-drop 4 (at .taken) o, ← e) (returns-given (resultOf (h .submit) (h .error)) o (at .taken) n _);
+          is = bind-is (takeOutcome asked) _ _ (t .is asked _ refl) _ ∙ rw (drop-drop 4 (at .taken) o, ← e) gives;
           fit = record { whole = long ∙ f .whole; logged = f .logged; taken = omega (arith, t .good .inside, rest, f .taken); counted = f .counted };
         };
-        given = all-given (resultOf (h .submit) (h .error)) o (at .taken) n (omega (arith, t .good .inside, rest, f .taken));
+        given = all-given (result h) o (at .taken) n (omega (arith, t .good .inside, rest, f .taken));
       }
 
 module _ (s l o : List ℕ) (at : Progress) (place address : ℕ) (request : UsbDeviceRequest) (buffer : Buffer) (l′ : List ℕ) (at′ : Progress) where
@@ -135,7 +141,8 @@ module _ (s l o : List ℕ) (at : Progress) (place address : ℕ) (request : Usb
 
 -- a request to the device's own number
 pub controlled : (s l o : List ℕ) (at : Progress) (place : ℕ) (request : UsbDeviceRequest) (buffer : Buffer) (a : Answer) (n : ℕ) (v : World)
-    → Gives (usbControlMessage place (byteAt s place Number) request buffer) (here s l o at) a n v → Gives (control place request buffer) (here s l o at) a n v
+    → Gives (usbControlMessage place (byteAt s place Number) request buffer) (here s l o at) a n v
+    → Gives (control place request buffer) (here s l o at) a n v
 unfolding control
 controlled s l o at place request buffer a n v g = record { ends = got _ _ _ (g .ends); given = g .given }
 

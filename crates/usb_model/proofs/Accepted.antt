@@ -2,31 +2,20 @@
 use mathlib.Core.Path.{_≡_, refl, sym, ap, _∙_}
 use mathlib.Core.Bool.{Bool, true, false, not, _||_, false≢true}
 use mathlib.Core.Logic.{_≢_}
-use mathlib.Core.List.{List}
 use Prim.Native.Nat.{ℕ, _+_, _≤_, _<_}
 use native.Mathlib.Omega.{arith}
-use native.Mathlib.Decide.{decLt}
 use borrow.Author.Tests.{leb-false, ltb-false, eqb-true, eqb-false, not-false}
 use lib.Dec.{eqb, leb, ltb}
 use lib.ListN.{length}
 use Rattle.usb_types.specs.declared.types.Refusal.{Refusal}
 use Rattle.usb_types.specs.declared.types.Refusal.the-variants.{BadArgument, StoreDamaged, AlreadyAttached, RootSpeed}
-use Rattle.usb_store.specs.Layout.{Places, StoreLength, Used, Hub}
+use Rattle.usb_store.specs.Layout.{Places, StoreLength, Used, Hub, Ports}
 use Rattle.usb_store.specs.Access.{byteAt}
 use Rattle.usb_device.specs.Device.{firstUnused}
-use Rattle.usb_device.proofs.Free.{first-least}
 use Rattle.usb_sound.specs.Sound.{Sound}
 use Rattle.usb_sound.proofs.Decides.{decides}
-use Rattle.usb_sound.proofs.Hubs.{hub-used}
-use Rattle.usb_model.specs.Entry.{Lent, Verdict, accepted, refused, refusedIf, _elseIf_, wrongLength, damaged, isUnused, noHub, rootVerdict, hubVerdict}
-
--- the places up to a used one are used
-pub used-below : (s : List ℕ) → Sound s → (p : ℕ) → p < 32 → byteAt s p Used ≡ 1 → p + 1 ≤ firstUnused s
-used-below s r p l u = first-least s (p + 1) (omega arith) (λ q h. go q h (decLt q p))
-  where
-    go : (q : ℕ) → q < p + 1 → Dec (q < p) → byteAt s q Used ≢ 0
-    go q h (yes m) z = omega (arith, z, r .packed q p m (l, u) .1)
-    go q h (no m) z = let e : q ≡ p = omega arith in omega (arith, u, ap (λ (k : ℕ). byteAt s k Used) (sym e) ∙ z)
+use Rattle.usb_sound.proofs.Hubs.{hub-used, used-leads}
+use Rattle.usb_model.specs.Entry.{Lent, Verdict, accepted, refused, refusedIf, _elseIf_, wrongLength, damaged, isUnused, noHub, noPort, rootVerdict, hubVerdict}
 
 abbrev isAccepted : Verdict → Bool
 isAccepted accepted = true
@@ -69,6 +58,12 @@ root-accepted lent speed e =
       low = omega (arith, ltb-false 3 speed (d .1), eqb-false speed 3 (passed-last (eqb speed 3) RootSpeed (c .1)));
     }
 
+pub used-inside : (lent : Lent) (place : ℕ) → isUnused lent place ≡ false → place < Places
+used-inside lent place e = leb-false Places place (neither (leb Places place) _ e .0)
+
+pub port-inside : (port : ℕ) → noPort port ≡ false → port < Ports
+port-inside port e = omega (arith, ltb-false 9 port e)
+
 -- the hub is there, and the test of the child or the port was passed
 pub record HubAccepted (lent : Lent) (hub : ℕ) (bad : Bool) : Type 0 where
   pub lengths : length (lent .new) ≡ length (lent .old)
@@ -85,7 +80,7 @@ hub-accepted lent hub bad e =
     let b = passed (damaged lent) StoreDamaged _ (a .1) in
     let c = neither (noHub lent hub) bad (passed-last (noHub lent hub || bad) BadArgument (b .1)) in
     let d = neither (isUnused lent hub) (eqb (byteAt (lent .old) hub Hub) 0) (c .0) in
-    let inside : hub < 32 = leb-false Places hub (neither (leb Places hub) (eqb (byteAt (lent .old) hub Used) 0) (d .0) .0) in
+    let inside = used-inside lent hub (d .0) in
     let r = decides (lent .old) .only (not-false _ (b .0)) in
     let h = eqb-false (byteAt (lent .old) hub Hub) 0 (d .1) in
     record {
@@ -93,6 +88,6 @@ hub-accepted lent hub bad e =
       is-sound = r;
       inside = inside;
       is-hub = h;
-      first = used-below (lent .old) r hub inside (hub-used (lent .old) r hub inside h);
+      first = omega (arith, used-leads (lent .old) r hub (inside, hub-used (lent .old) r hub inside h));
       good = c .1;
     }

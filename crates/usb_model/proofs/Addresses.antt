@@ -12,8 +12,9 @@ use Rattle.usb_types.specs.declared.request.UsbDeviceRequest.{UsbDeviceRequest}
 use Rattle.usb_store.specs.Layout.{Number, Status}
 use Rattle.usb_store.specs.Access.{byteAt, withByte}
 use Rattle.usb_store.specs.Values.{Default, Addressed}
-use Rattle.usb_store.proofs.Fields.{byte-other, byte-same}
-use Rattle.usb_model.specs.World.{put}
+use Rattle.usb_store.proofs.Fields.{byte-same}
+use Rattle.usb_store.proofs.Cells.{byte-beside}
+use Rattle.usb_model.specs.World.{putBytes, put}
 use Rattle.usb_model.specs.Transfer.{Outcome, nowhere}
 use Rattle.usb_model.specs.Usbd.{usbSetAddress}
 use Rattle.usb_model.specs.History.{Event, asked, waited, acknowledged, isRequest, setsAddress, configures, resets}
@@ -22,11 +23,11 @@ use Rattle.usb_model.specs.Demand3 as Claim
 use Rattle.usb_model.proofs.Bytes.{bytes-one}
 use Rattle.usb_model.proofs.Stores.{Follows, plain-follows}
 use Rattle.usb_model.proofs.Functions.{small}
-use Rattle.usb_model.proofs.Triples.{State, store, Does, does-map, does-pre, does-next, does-known, does-unless, does-store}
+use Rattle.usb_model.proofs.Triples.{does-post, State, store, Does, does-map, does-pre, does-next, does-known, does-unless, does-store}
 use Rattle.usb_model.proofs.Events.{Added, wait-adds}
-use Rattle.usb_model.proofs.Quiet.{Keys, Adds, none, more, adds-one, spot-apart}
+use Rattle.usb_model.proofs.Quiet.{Keys, Adds, none, more}
 use Rattle.usb_model.proofs.Messages.{Acknowledged, Unacknowledged, message-does}
-use Rattle.usb_model.proofs.Parts.{Still, still-wait, sends-none, head-keys}
+use Rattle.usb_model.proofs.Parts.{Still, added-step, still-wait, sends-none, head-keys}
 use Rattle.usb_model.proofs.Invariant.{NotOf, once-adds, Aside, Only}
 use Rattle.usb_model.proofs.Middle.{spared-key, Stable, Mid, mid-still, mid-write, mid-event, count-hit, count-miss}
 
@@ -133,11 +134,11 @@ module _ {h₀ : List Event} (H : ℕ → Type 0) (x : ℕ) (inside : x < 32) wh
 
   pub own-other : (f v g : ℕ) (s : State h₀) → f < 1152 → g < 1152 → (f + 1 ≤ g) ⊎ (g < f)
       → byteAt (withByte (store s) x f v) x g ≡ byteAt (store s) x g
-  own-other f v g s l m a = byte-other (store s) x f (v ∷ []) x g (spot-apart x f 1 x g (omega arith) m (λ _. a))
+  own-other f v g s l m a = byte-beside (store s) x f (v ∷ []) x g (omega arith) m (λ _. a)
 
   module _ {R : ℕ → ℕ → List Event → Type 0} {st n c d : ℕ} {N : State h₀ → Type 0} where
     pub put-number : (v : ℕ) → v < 256 → Does (Mid H x R st n c d) (put x Number v) (λ _. Mid H x R st v c d) N
-    unfolding put
+    unfolding putBytes
     put-number v l = does-store (λ t. withByte t x Number v) (λ s m.
         let w = own-follows Number v s (omega arith) (omega arith) l in (
           w,
@@ -146,7 +147,7 @@ module _ {h₀ : List Event} (H : ℕ → Type 0) (x : ℕ) (inside : x < 32) wh
         ))
 
     pub put-status : (v : ℕ) → v < 256 → Does (Mid H x R st n c d) (put x Status v) (λ _. Mid H x R v n c d) N
-    unfolding put
+    unfolding putBytes
     put-status v l = does-store (λ t. withByte t x Status v) (λ s m.
         let w = own-follows Status v s (omega arith) (omega arith) l in (
           w,
@@ -163,10 +164,8 @@ module _ {h₀ : List Event} (H : ℕ → Type 0) (x : ℕ) (inside : x < 32) wh
       does-next (does-map (λ s p. p) (λ _ t u. hit t u) missed
       (message-does Keys x (addressOf x) nowhere (sends-none head-keys ToDevice SetAddress (x + 1) 0 (omega arith) (omega arith)
       (omega arith) (omega arith) 0 (omega arith)) 0 (omega arith))) (
-      does-next (does-map (λ s p. p) (λ _ t a. ticked t a) (λ t u. u) (wait-adds {P = At Default 0} {N = Unaddressed} 10000 (omega arith))) (
+      does-next (does-post (λ _ t a. ticked t a) (wait-adds {P = At Default 0} {N = Unaddressed} 10000 (omega arith))) (
       does-next (put-number (x + 1) (omega arith)) (put-status Addressed (omega arith)))))))
     where
       ticked : (t : State h₀) → Added (At Default 0) (waited 10000) t → At Default 0 t
-      ticked t a =
-          mid-still x address-stable
-          (record { keep = λ q g k. ap (λ (l : List ℕ). byteAt l q g) (a .same); past = adds-one (still-wait 10000) (a .past) }) (a .pre)
+      ticked t a = mid-still x address-stable (added-step (still-wait 10000) a) (a .pre)

@@ -12,7 +12,7 @@ use Rattle.usb_types.specs.Numbers.{littleEndian}
 use Rattle.usb_types.proofs.LittleEndian.{length-le}
 use Rattle.usb_types.specs.declared.request.UsbDeviceRequest.{UsbDeviceRequest}
 use Rattle.usb_store.specs.Layout.{Number, Status, ConfigurationIndex, Hub, DeviceDescriptor, MaxPacketSize0, ConfigurationDescriptor, Interfaces, HubDescriptor, HubStatus, PortStatus, Child, MaxChildren, Error, LastTransfer}
-use Rattle.usb_store.specs.Access.{bytesAt, offset, withBytes, withByte, withNumber}
+use Rattle.usb_store.specs.Access.{bytesAt, offset, withBytes, withByte}
 use Rattle.usb_store.proofs.Writes.{write-nil}
 use Rattle.usb_store.proofs.Fields.{bytes-most}
 use Rattle.usb_model.specs.Programs.{change}
@@ -75,13 +75,10 @@ module _ {k : Known} where
   puts-bytes p f n vs r l = writes (λ s. withBytes s p f vs) (λ s h. plain-writes h p f vs (plain-less l r))
 
   pub puts : (p f v : ℕ) → Plain f 1 → Keeps k 0 (put p f v)
-  unfolding put
-  puts p f v r = writes (λ s. withByte s p f v) (λ s h. plain-writes h p f (v ∷ []) r)
+  puts p f v r = puts-bytes p f 1 (v ∷ []) r (omega arith)
 
   puts-number : (p f n v : ℕ) → Plain f n → Keeps k 0 (putNumber p f n v)
-  unfolding putNumber
-  puts-number p f n v r =
-      writes (λ s. withNumber s p f n v) (λ s h. plain-writes h p f (littleEndian n v) (plain-less (omega (arith, length-le n v)) r))
+  puts-number p f n v r = puts-bytes p f n (littleEndian n v) r (omega (arith, length-le n v))
 
   logs : (action : List ℕ) → Keeps k 0 (logAction action)
   unfolding logAction
@@ -207,15 +204,15 @@ module _ {k : Known} where
 -- ---- the writes that are not plain
 
 pub puts-most : {k : Known} (p v : ℕ) → p < 32 → v ≤ 10 → Keeps k 0 (put p MaxChildren v)
-unfolding put
+unfolding putBytes
 puts-most p v h l = writes (λ s. withByte s p MaxChildren v) (λ s n. most-writes n p v h l)
 
 pub puts-child : {q : ℕ} {b : Bool} (p j v : ℕ) → j < 10 → Keeps (place q b) 0 (put p (Child j) v)
-unfolding put
+unfolding putBytes
 puts-child p j v l = writes (λ s. withByte s p (Child j) v) (λ s n. child-writes n p j v l)
 
 pub read-hub-descriptor : (p : ℕ) → p < 32 → Keeps (place p false) 2 (hubReadDescriptor p)
-unfolding hubReadDescriptor put
+unfolding hubReadDescriptor putBytes
 read-hub-descriptor p h =
     bind (descriptors p _ _ _ _ _ none) λ header. bind (gets p _) λ data′.
     next (whens _ (next (writes (λ s. withByte s p Hub 2) (λ s n. hub-writes n 2 h (omega arith)))

@@ -16,9 +16,9 @@ use Rattle.usb_types.specs.declared.types.Answer.{Answer}
 use Rattle.usb_store.specs.Layout.{Used, Number, Speed, Status, Hub, HubDescriptor, PortCount, Child, MaxChildren, InterfaceClass, EndpointCount, EndpointAddress, EndpointAttributes, ConfigurationValue}
 use Rattle.usb_store.specs.Access.{byteAt, withByte}
 use Rattle.usb_store.specs.Values.{Attached, Powered, Default, Addressed, WithoutDescriptor, WithDescriptor}
-use Rattle.usb_store.proofs.Fields.{byte-other, byte-same}
 use Rattle.usb_device.specs.Device.{blank, firstUnused}
 use Rattle.usb_device.proofs.Free.{first-most, first-before}
+use Rattle.usb_store.proofs.Cells.{byte-else}
 use Rattle.usb_model.specs.Programs.{_>>=_, _>>_, succeed, ignore, when, each}
 use Rattle.usb_model.specs.World.{M, get, put, putBytes}
 use Rattle.usb_model.specs.Transfer.{into, nowhere, usbGetDescriptor}
@@ -27,16 +27,16 @@ use Rattle.usb_model.specs.Hub.{isOk, hubReadDescriptor, hubCheckConnect
 use Rattle.usb_model.specs.Attach.{usbAttachDevice, attachBelow, usbAttachRootHub}
 use Rattle.usb_model.specs.Kept.{Bytes}
 use Rattle.usb_model.specs.History.{Event, count}
-use Rattle.usb_model.proofs.Bytes.{bytes-one, bytes-blank}
-use Rattle.usb_model.proofs.Stores.{Follows, plain-follows, most-follows}
+use Rattle.usb_model.proofs.Bytes.{bytes-blank}
+use Rattle.usb_model.proofs.Stores.{plain-low, Follows, most-follows}
 use Rattle.usb_model.proofs.Functions.{small, middle}
-use Rattle.usb_model.proofs.Triples.{State, store, stored, Does, does-map, does-pre, does-bind, does-next, does-skip, does-get, does-known, does-when, does-unless, does-succeed, does-attempt, Attempted, does-ignore, does-each, does-keep, does-given, does-store, Gives, Keeps, k-store}
-use Rattle.usb_model.proofs.Quiet.{Keys, key-low, Quiet, none, quiet-order, keys-clear, second, fortieth, last, put-quiet, bytes-quiet, write-quiet, spot-apart}
+use Rattle.usb_model.proofs.Triples.{does-post, does-first, State, store, stored, Does, does-map, does-pre, does-bind, does-next, does-skip, does-get, does-known, does-when, does-unless, does-succeed, does-attempt, Attempted, does-ignore, does-each, does-keep, does-given, does-store, Gives, Keeps, k-store}
+use Rattle.usb_model.proofs.Quiet.{Keys, key-low, Quiet, none, quiet-order, keys-clear, second, fortieth, last, put-quiet, bytes-quiet, write-quiet}
 use Rattle.usb_model.proofs.Messages.{read-quiet}
-use Rattle.usb_model.proofs.Parts.{Still, Stilly, still-hub-descriptor, sends-none, sends-into, head-keys, read-device-still, hub-status-still, power-on-still}
+use Rattle.usb_model.proofs.Parts.{calm-of-still, Still, Stilly, still-hub-descriptor, sends-none, sends-into, head-keys, read-device-still, hub-status-still, power-on-still}
 use Rattle.usb_model.proofs.Invariant.{expected, Inv, story-map, Held, other, its-use, its-child, Aside, but-kept, stands-kept, Only, aside, back}
-use Rattle.usb_model.proofs.Middle.{is-root, Stable, Mid, Fine, fine-calm, calm-of-still, mid-still, mid-fine}
-use Rattle.usb_model.proofs.Addresses.{AfterReset, reset-stable, address-stable, Unaddressed, At, put-number, put-status, set-address-does}
+use Rattle.usb_model.proofs.Middle.{is-root, Stable, Mid, Fine, fine-calm, mid-still, mid-fine}
+use Rattle.usb_model.proofs.Addresses.{own-follows, own-same, AfterReset, reset-stable, address-stable, Unaddressed, At, put-number, put-status, set-address-does}
 use Rattle.usb_model.proofs.Configurations.{Settled, at-fine, configure-does}
 use Rattle.usb_model.proofs.Births.{Allocated, does-allocate, new-does, new-mid}
 use Rattle.usb_model.proofs.Claims.{Enters, keeps-fine, check-does}
@@ -57,25 +57,15 @@ module _ {h₀ : List Event} where
 
   -- ---- a place becomes a hub
 
-  record Hublike (H : ℕ → Type 0) (x : ℕ) (s : State h₀) : Type 0 where
-    is-fine : Fine H s
-    number : byteAt (store s) x Number ≡ x + 1
-    used : byteAt (store s) x Used ≡ 1
-    first : x + 1 ≤ firstUnused (store s)
-
-  module _ {H : ℕ → Type 0} {x v : ℕ} (inside : x < 32) (v-low : v < 256) (v-not : v ≢ 0) {s : State h₀} (p : Hublike H x s) where
+  module _ {H : ℕ → Type 0} {x v : ℕ} (inside : x < 32) (v-low : v < 256) (v-not : v ≢ 0) {s : State h₀} (p : Settled H x s) where
     hub-follows : Follows (store s) (withByte (store s) x Hub v)
-    hub-follows = plain-follows (s .good) x Hub (v ∷ []) (small Hub (omega arith) (omega arith)) (bytes-one v-low)
+    hub-follows = own-follows H x inside Hub v s (omega arith) (omega arith) v-low
+
+    is-hub : byteAt (withByte (store s) x Hub v) x Hub ≢ 0
+    is-hub z = v-not (sym (own-same H x inside Hub v s (omega arith)) ∙ z)
 
     else-hub : (q g : ℕ) → g < 1152 → (q ≡ x → g ≢ Hub) → byteAt (withByte (store s) x Hub v) q g ≡ byteAt (store s) q g
-    else-hub q g l n = byte-other (store s) x Hub (v ∷ []) q g (spot-apart x Hub 1 q g (omega arith) l (λ e. around (n (sym e))))
-      where
-        around : g ≢ Hub → (Hub + 1 ≤ g) ⊎ (g < Hub)
-        around d = go (decLt g Hub)
-          where
-            go : Dec (g < Hub) → (Hub + 1 ≤ g) ⊎ (g < Hub)
-            go (yes a) = inr a
-            go (no a) = inl (omega (arith, d))
+    else-hub q g l n = byte-else (store s) x Hub v q g (omega arith) l n
 
     hub-held : Quiet (Held (Only x)) (Aside (Only x)) s (stored s (withByte (store s) x Hub v) hub-follows)
     hub-held = record { keep = keep; past = none }
@@ -107,27 +97,23 @@ module _ {h₀ : List Event} where
               });
           known = record {
             hubs = λ q. ⊎-elim (λ h z. old-hub q h z (ℕ-discrete q x))
-                (λ e z. v-not (sym (byte-same (store s) x Hub v (record { whole = s .good .whole; inside = inside; room = omega arith }))
-                ∙ ap (λ (k : ℕ). byteAt (withByte (store s) x Hub v) k Hub) (sym e) ∙ z));
+                (λ e z. is-hub (ap (λ (k : ℕ). byteAt (withByte (store s) x Hub v) k Hub) (sym e) ∙ z));
             first = λ q. ⊎-elim (λ h. omega (arith, hub-follows .first, p .is-fine .known .first q h)) (λ e. omega (arith, hub-follows .first, p .first, e));
           };
         }
       where
         old-hub : (q : ℕ) → H q → byteAt (withByte (store s) x Hub v) q Hub ≡ 0 → Dec (q ≡ x) → ⊥
-        old-hub q h z (yes e) =
-            v-not
-            (sym (byte-same (store s) x Hub v (record { whole = s .good .whole; inside = inside; room = omega arith }))
-            ∙ ap (λ (k : ℕ). byteAt (withByte (store s) x Hub v) k Hub) (sym e) ∙ z)
+        old-hub q h z (yes e) = is-hub (ap (λ (k : ℕ). byteAt (withByte (store s) x Hub v) k Hub) (sym e) ∙ z)
         old-hub q h z (no n) = p .is-fine .known .hubs q h (sym (else-hub q Hub (omega arith) (λ e. absurd (n e))) ∙ z)
 
   put-hub : {H : ℕ → Type 0} {N : State h₀ → Type 0} {x : ℕ} (v : ℕ) → x < 32 → v < 256 → v ≢ 0
-      → Does (Hublike H x) (put x Hub v) (λ _. Fine (Also H x)) N
-  unfolding put
+      → Does (Settled H x) (put x Hub v) (λ _. Fine (Also H x)) N
+  unfolding putBytes
   put-hub {x = x} v inside l n = does-store (λ t. withByte t x Hub v) (λ s p. (hub-follows inside l n p, hub-fine inside l n p))
 
   -- MaxChildren is no key
   most-still : (x v : ℕ) → x < 32 → v ≤ 10 → Keeps {h₀ = h₀} Stilly (put x MaxChildren v)
-  unfolding put
+  unfolding putBytes
   most-still x v inside l = k-store (quiet-order Keys Still) (λ t. withByte t x MaxChildren v) (λ s.
       let w = most-follows (s .good) x v inside l in
       (w, write-quiet Keys Still s x MaxChildren (v ∷ []) 1 w (keys-clear (last (omega arith) (omega arith))) (omega arith)))
@@ -136,7 +122,7 @@ module _ {h₀ : List Event} where
 
   module _ (H : ℕ → Type 0) (x : ℕ) (inside : x < 32) where
     -- a known hub may be made one again
-    hublike : (s : State h₀) → Fine (Also H x) s → Hublike (Also H x) x s
+    hublike : (s : State h₀) → Fine (Also H x) s → Settled (Also H x) x s
     hublike s f =
         let i = f .inv .place x inside (λ z. z) in
         let h = f .known .hubs x (inr refl) in
@@ -162,16 +148,16 @@ module _ {h₀ : List Event} where
         does-bind (does-keep (Fine (Also H x)) header-still (λ s t f r. fine-calm (calm-of-still r) f) (λ s f. f)) λ header.
         does-given (λ s p. p .1) λ bytes.
         does-pre (λ s p. p .0) (
-        does-bind (does-map (λ s p. p) (λ _ s p. p .0) (λ s n. n) (does-get {N = Fine (Also H x)} x Hub)) λ data′.
+        does-bind (does-first (does-get {N = Fine (Also H x)} x Hub)) λ data′.
         does-next (does-when _ (λ _. made) (λ _ s f. f)) (
         does-next (keeps-fine (Also H x) (descriptor-still (getD header 0 0) (bytes .below 0))) does-skip))
       where
         made : Does {h₀ = h₀} (Fine (Also H x)) (put x Hub WithDescriptor >> putBytes x HubDescriptor (blank 9)) (λ _. Fine (Also H x)) (Fine (Also H x))
         made = does-next
-            (does-pre hublike (does-map (λ s p. p) (λ _ s f. fine-less (λ q h. inl h) f) (λ s n. n)
+            (does-pre hublike (does-post (λ _ s f. fine-less (λ q h. inl h) f)
             (put-hub {N = Fine (Also H x)} WithDescriptor inside (omega arith) (omega arith))))
             (keeps-fine (Also H x) (bytes-quiet Keys Still x HubDescriptor 9 (blank 9) (keys-clear (fortieth (omega arith) (omega arith)))
-            (record { past = omega arith; room = omega arith; apart = inl (omega arith) }) (omega arith) (bytes-blank 9)))
+            (plain-low (omega arith) (omega arith)) (omega arith) (bytes-blank 9)))
 
     module _ (attach : ℕ → M (Unit {0})) (enters : Enters h₀ attach) where
       ports-does : Does {h₀ = h₀} (Fine (Also H x)) (get x MaxChildren >>= λ children. each children 0
@@ -181,7 +167,7 @@ module _ {h₀ : List Event} where
           does-given (λ s p. subst (λ (n : ℕ). n ≤ 10) (sym (p .1)) (s .good .most x)) λ most.
           does-pre (λ s p. p .0) (does-each children 0 (λ port l. does-ignore (check-does (Also H x) x port (inr refl) inside (omega arith) attach enters)))
 
-      pub hub-attach-does : Does {h₀ = h₀} (Settled H x inside) (hubAttach attach x) (λ _. Fine H) (Fine H)
+      pub hub-attach-does : Does {h₀ = h₀} (Settled H x) (hubAttach attach x) (λ _. Fine H) (Fine H)
       unfolding hubAttach
       hub-attach-does =
           does-bind (does-get x EndpointCount) λ count.
@@ -190,17 +176,12 @@ module _ {h₀ : List Event} where
           does-next (does-unless _ _ (λ s p. p .0 .0 .0 .is-fine)) (
           does-bind (does-get x EndpointAttributes) λ attributes.
           does-next (does-unless _ _ (λ s p. p .0 .0 .0 .0 .0 .is-fine)) (
-          does-pre (λ s p. let y = p .0 .0 .0 .0 .0 .0 in record {
-            is-fine = y .is-fine;
-            number = y .settled-number;
-            used = y .settled-use;
-            first = y .settled-first;
-          }) (
+          does-pre (λ s p. p .0 .0 .0 .0 .0 .0) (
           does-next (put-hub WithoutDescriptor inside (omega arith) (omega arith)) (
           does-map (λ s p. p) (λ _ s f. fine-less (λ q h. inl h) f) (λ s f. fine-less (λ q h. inl h) f) (
           does-next (keeps-fine (Also H x) (most-still x 1 inside (omega arith))) (
           does-next descriptor-does (
-          does-bind (does-map (λ s p. p) (λ _ s p. p .0) (λ s n. n) (does-get {N = Fine (Also H x)} x PortCount)) λ ports.
+          does-bind (does-first (does-get {N = Fine (Also H x)} x PortCount)) λ ports.
           does-next (keeps-fine (Also H x) (most-still x (min ports 10) inside (omega arith))) (
           does-next (keeps-fine (Also H x) (hub-status-still x)) (
           does-next (keeps-fine (Also H x) (power-on-still x)) (
@@ -212,7 +193,7 @@ module _ {h₀ : List Event} where
   keeps-mid : (H : ℕ → Type 0) (x : ℕ) {R : ℕ → ℕ → List Event → Type 0} {st n c d : ℕ} → Stable R
       → ((s : State h₀) → Mid H x R st n c d s → Fine H s) → {A : Type 0} {S : A → Type 0} {m : M A} → Gives {h₀ = h₀} Stilly S m
       → Does {h₀ = h₀} (Mid H x R st n c d) m (λ _. Mid H x R st n c d) (Fine H)
-  keeps-mid H x k f g = does-map (λ s p. p) (λ _ s q. q .0) (λ s n. n) (does-keep _ g (λ s t m r. mid-still x k r m) f)
+  keeps-mid H x k f g = does-first (does-keep _ g (λ s t m r. mid-still x k r m) f)
 
   module _ (attach : ℕ → M (Unit {0})) (enters : Enters h₀ attach) (H : ℕ → Type 0) (x : ℕ) (inside : x < 32) where
     -- the rest, once the address is set
@@ -253,7 +234,7 @@ module _ {h₀ : List Event} where
   pub attach-below-does : (free : ℕ) → Enters h₀ (attachBelow free)
   unfolding attachBelow
   attach-below-does zero H x st inside l =
-      does-map (λ s p. p) (λ _ s m. mid-fine x (omega arith) (early st l) m) (λ s n. n) (does-skip {N = Fine H})
+      does-post (λ _ s m. mid-fine x (omega arith) (early st l) m) (does-skip {N = Fine H})
   attach-below-does (suc free) H x st inside l = attach-does (attachBelow free) (attach-below-does free) H x inside st l
 
   -- ---- scan
@@ -287,7 +268,7 @@ module _ {h₀ : List Event} where
         → Does {h₀ = h₀} (Fine H) (scanPort (attachBelow free) below hub port) (λ _. Fine H) (Fine H)
     unfolding scanPort
     scan-port-does below scans hub port H h l m =
-        does-bind (does-map (λ s p. p) (λ r s a. either-fine r s a (isOk r) refl) (λ s n. n)
+        does-bind (does-post (λ r s a. either-fine r s a (isOk r) refl)
         (does-attempt {N = Fine H} (check-does H hub port h l m (attachBelow free) (attach-below-does free)))) λ result.
         does-bind (does-get hub (Child port)) λ child.
         does-bind (does-get (child - 1) Hub) λ data′.

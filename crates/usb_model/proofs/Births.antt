@@ -9,19 +9,20 @@ use lib.ListN.{getD}
 use Rattle.usb_store.specs.Layout.{Used, Number, Status, Hub, Child}
 use Rattle.usb_store.specs.Access.{byteAt, withBytes, withByte}
 use Rattle.usb_store.specs.Values.{Attached}
-use Rattle.usb_store.proofs.Fields.{byte-other, byte-same}
+use Rattle.usb_store.proofs.Fields.{byte-same}
 use Rattle.usb_device.specs.Device.{newDevice, firstUnused}
-use Rattle.usb_device.proofs.Free.{first-unused, new-byte}
+use Rattle.usb_device.proofs.NewDevice.{new-bytes}
+use Rattle.usb_device.proofs.Free.{new-elsewhere, first-unused, new-byte}
 use Rattle.usb_sound.specs.Sound.{IsUsed}
+use Rattle.usb_store.proofs.Cells.{byte-beside}
 use Rattle.usb_model.specs.Programs.{Ran, on, _>>=_, _>>_}
-use Rattle.usb_model.specs.World.{World, M, put}
+use Rattle.usb_model.specs.World.{putBytes, World, M, put}
 use Rattle.usb_model.specs.Usbd.{usbAllocateDevice}
 use Rattle.usb_model.specs.History.{Event, setsAddress, configures, count}
 use Rattle.usb_model.specs.Demand3.{Once, Stands}
 use Rattle.usb_model.proofs.Ways.{Allocates, bus-full, allocated, allocate-ends}
-use Rattle.usb_model.proofs.Stores.{Follows, new-follows, first-new, elsewhere, child-follows}
+use Rattle.usb_model.proofs.Stores.{Follows, new-follows, first-new, child-follows}
 use Rattle.usb_model.proofs.Triples.{State, store, stored, Leads, bad, Does, does-store}
-use Rattle.usb_model.proofs.Quiet.{spot-apart}
 use Rattle.usb_model.proofs.Invariant.{expected, PlaceInv, Inv, own-low, place-map, aside}
 use Rattle.usb_model.proofs.Middle.{Origin, is-child, Mid, Fine, hubs-kept}
 use Rattle.usb_model.proofs.Addresses.{AfterReset}
@@ -55,13 +56,6 @@ module _ {h₀ : List Event} where
             past = refl;
           })
 
--- ---- the bytes of a new device
-
-new-own : (x : ℕ)
-    → (getD (newDevice x) Used 0 ≡ 1) × (getD (newDevice x) Status 0 ≡ 0) × (getD (newDevice x) Number 0 ≡ x + 1) × (getD (newDevice x) Hub 0 ≡ 0)
-unfolding newDevice
-new-own x = (refl, refl, refl, refl)
-
 module _ {h₀ : List Event} (H : ℕ → Type 0) where
   -- a device that was just allocated
   pub record New (x : ℕ) (t : State h₀) : Type 0 where
@@ -81,7 +75,7 @@ module _ {h₀ : List Event} (H : ℕ → Type 0) where
     unused = ap (λ (q : ℕ). byteAt (store s) q Used) (a .here) ∙ first-unused (store s) (omega (arith, a .here, a .inside))
 
     pub else-same : (q g : ℕ) → q ≢ x → g < 1152 → byteAt (store t) q g ≡ byteAt (store s) q g
-    else-same q g n l = ap (λ (w : List ℕ). byteAt w q g) (a .is) ∙ elsewhere (s .good) x (a .here) (a .inside) q g n l
+    else-same q g n l = ap (λ (w : List ℕ). byteAt w q g) (a .is) ∙ new-elsewhere (store s) x q g l n
 
     new-is : (g : ℕ) → g < 1152 → byteAt (store t) x g ≡ getD (newDevice x) g 0
     new-is g l = ap (λ (w : List ℕ). byteAt w x g) (a .is) ∙ new-byte (store s) x g (s .good .whole) (a .inside) l
@@ -106,15 +100,15 @@ module _ {h₀ : List Event} (H : ℕ → Type 0) where
 
     itself : PlaceInv (store s) (s .past) x → PlaceInv (store t) (t .past) x
     itself i =
-        let b = new-own x in
+        let b = new-bytes x in
         record {
-          fresh = λ e. absurd (omega (arith, e, new-is Used (omega arith), b .0));
-          plain = λ d. absurd (d (new-is Hub (omega arith) ∙ b .3));
+          fresh = λ e. absurd (omega (arith, e, new-is Used (omega arith), b .used));
+          plain = λ d. absurd (d (new-is Hub (omega arith) ∙ b .hub));
           once =
               ap (count (setsAddress (x + 1))) (a .past) ∙ i .once
-              ∙ ap expected (i .fresh unused ∙ sym (new-is Status (omega arith) ∙ b .1));
-          numbered = λ d. absurd (d (new-is Hub (omega arith) ∙ b .3));
-          story = λ e. absurd (omega (arith, e, new-is Status (omega arith), b .1));
+              ∙ ap expected (i .fresh unused ∙ sym (new-is Status (omega arith) ∙ b .status));
+          numbered = λ d. absurd (d (new-is Hub (omega arith) ∙ b .hub));
+          story = λ e. absurd (omega (arith, e, new-is Status (omega arith), b .status));
         }
 
     inv-new : Inv s → Inv t
@@ -137,7 +131,7 @@ module _ {h₀ : List Event} (H : ℕ → Type 0) where
 
     pub new-does : New x t
     new-does =
-        let b = new-own x in
+        let b = new-bytes x in
         let f = was s (a .pre) in
         let later : x + 1 ≤ firstUnused (store t) = subst (λ (w : List ℕ). x + 1 ≤ firstUnused w) (sym (a .is)) (first-new (s .good) x (a .here) (a .inside)) in
         record {
@@ -146,10 +140,10 @@ module _ {h₀ : List Event} (H : ℕ → Type 0) where
             known = hubs-kept (λ q h. else-same q Hub (known-else f q h) (omega arith)) (omega (arith, later, a .here)) (f .known);
           };
           inside = a .inside;
-          its-use = new-is Used (omega arith) ∙ b .0;
-          its-status = new-is Status (omega arith) ∙ b .1;
-          its-number = new-is Number (omega arith) ∙ b .2;
-          its-hub = new-is Hub (omega arith) ∙ b .3;
+          its-use = new-is Used (omega arith) ∙ b .used;
+          its-status = new-is Status (omega arith) ∙ b .status;
+          its-number = new-is Number (omega arith) ∙ b .number;
+          its-hub = new-is Hub (omega arith) ∙ b .hub;
           first = later;
         }
       where
@@ -204,7 +198,7 @@ module _ {h₀ : List Event} (H : ℕ → Type 0) (k j : ℕ) (known : H k) (bel
 
     -- every byte but this one
     rest-same : (q g : ℕ) → g < 1152 → ((q ≡ k) → (Child j + 1 ≤ g) ⊎ (g < Child j)) → byteAt with-child q g ≡ byteAt (store s) q g
-    rest-same q g l n = byte-other (store s) k (Child j) ((x + 1) ∷ []) q g (spot-apart k (Child j) 1 q g (omega arith) l (λ e. n (sym e)))
+    rest-same q g l n = byte-beside (store s) k (Child j) ((x + 1) ∷ []) q g (omega arith) l n
 
     own-rest : (q g : ℕ) → g < 43 → byteAt with-child q g ≡ byteAt (store s) q g
     own-rest q g l = rest-same q g (omega arith) (λ _. inr (omega arith))
@@ -263,7 +257,7 @@ module _ {h₀ : List Event} (H : ℕ → Type 0) (k j : ℕ) (known : H k) (bel
         }
 
   pub put-child : {N : State h₀ → Type 0} (x : ℕ) → Does (Coming x) (put k (Child j) (x + 1)) (λ _. Born x) N
-  unfolding put
+  unfolding putBytes
   put-child x = does-store (λ t. withByte t k (Child j) (x + 1)) (λ s c. (follows c, born c))
 
   -- the place is in the middle of its attach

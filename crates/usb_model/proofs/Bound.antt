@@ -12,19 +12,19 @@ use Rattle.usb_store.specs.Layout.{Number, Speed, Status, PortNumber, Parent, H
 use Rattle.usb_store.specs.Access.{byteAt, withByte}
 use Rattle.usb_device.proofs.Free.{first-unused}
 use Rattle.usb_sound.specs.Sound.{Sound}
-use Rattle.usb_model.specs.Programs.{Ran, done, fail, halt, on, _>>=_, _>>_, change, endOf}
-use Rattle.usb_model.specs.World.{World, M, withStore, get, put}
+use Rattle.usb_model.specs.Programs.{Ran, on, _>>=_, _>>_, change, endOf}
+use Rattle.usb_model.specs.World.{putBytes, World, M, withStore, get, put}
 use Rattle.usb_model.specs.Features.{PORT-CONNECTION, PORT-ENABLE, bit}
 use Rattle.usb_model.specs.Usbd.{usbAllocateDevice}
 use Rattle.usb_model.specs.Hub.{hubPortConnectionChanged, hubCheckConnection, hubAttach}
 use Rattle.usb_model.specs.Attach.{usbAttachDevice, attachBelow, usbAttachRootHub}
-use Rattle.usb_model.specs.Entry.{Lent, Verdict, accepted, refused, rootVerdict, start, answered, call, rootAttach}
+use Rattle.usb_model.specs.Entry.{Lent, Verdict, accepted, refused, rootVerdict, start, call, rootAttach}
 use Rattle.usb_model.specs.Kept.{LentBytes}
 use Rattle.usb_model.specs.Count.{mostRequests, storeLeft}
 use Rattle.usb_model.proofs.Ways.{Allocates, bus-full, allocated, allocate-ends}
 use Rattle.usb_model.proofs.Costs.{after, Ended, Costs, bind, next, next′, looks, more, skips, throws, succeeds, attempts, ignores, whens, whens-true, unless, eachs}
 use Rattle.usb_model.proofs.Budget.{budget, Known, nothing, place, port, Knows, forget, frame, Keeps, Sends, hub-writes, new-writes}
-use Rattle.usb_model.proofs.Accepted.{root-accepted}
+use Rattle.usb_model.proofs.Accepted.{neither, root-accepted}
 use Rattle.usb_model.proofs.Entries.{start-good}
 use Rattle.usb_model.proofs.Asks.{small, gets, puts, puts-most, puts-child, waits, frames, read-device-descriptor, set-address, configures, read-hub-descriptor, get-status, change-feature, power-on, port-get-status, port-status, reset2}
 
@@ -47,7 +47,7 @@ allocates {k} {B} {f} n h = record { run = λ w x. go w x (allocate-ends w) }
 -- a new hub for 444
 becomes-hub : {B : Type 0} {f : M B} (n p v : ℕ) → p < 32 → v ≢ 0 → Sends (place p false) (444 + n) f
     → Sends (place p true) n (put p Hub v >> f)
-unfolding put change _>>_
+unfolding putBytes change _>>_
 becomes-hub n p v inside d h = record {
   run = λ w x.
       let r = hub-writes x v inside d in
@@ -59,8 +59,7 @@ becomes-hub n p v inside d h = record {
 
 -- a port at which a change goes on has no child
 vacant : (a b : Bool) → (a || not b) ≡ false → b ≡ true
-vacant true b e = absurd (false≢true (sym e))
-vacant false b e = not-false b e
+vacant a b e = not-false b (neither a (not b) e .1)
 
 -- more asked for after, where it follows from nothing
 anyhow : {k l : Known} {n : ℕ} {A : Type 0} {m : M A} (keep : (s : List ℕ) → Knows k s → Knows l s)
@@ -145,11 +144,6 @@ root-hub speed = allocates 0 λ p h.
 
 -- ---- the entry point
 
-within : (r : Ran World (Unit {0})) → endOf r .at .requests ≤ budget (endOf r .store) → answered r .requests ≤ budget (answered r .new)
-within (done a w) h = h
-within (fail e w) h = h
-within (halt x w) h = h
-
 module _ (lent : Lent) (bytes : LentBytes lent) (speed : ℕ) where
   sent : (v : Verdict) (s : List ℕ) → (v ≡ accepted → Sound (lent .old) × (s ≡ call lent v (usbAttachRootHub speed) .new))
       → call lent v (usbAttachRootHub speed) .requests ≤ mostRequests s
@@ -157,7 +151,7 @@ module _ (lent : Lent) (bytes : LentBytes lent) (speed : ℕ) where
   sent accepted s h =
       let g = start-good lent bytes (h refl .0) in
       let e = root-hub speed .run (start lent) (record { whole = g .whole; most = g .most; facts = tt }) in
-      rw (h refl .1) (within (usbAttachRootHub speed (start lent)) (omega (arith, e .paid)))
+      rw (h refl .1) (omega (arith, e .paid))
   sent (refused r) s h = omega arith
 
   -- refused or not, by the store that the call leaves

@@ -3,20 +3,20 @@ use mathlib.Core.Path.{_≡_, refl, ap, _∙_}
 use mathlib.Core.Bool.{Bool, true, false, cond, not}
 use mathlib.Core.Logic.{_⊎_, inl, inr, ⊎-elim, _≢_}
 use mathlib.Core.List.{List, [], _∷_}
-use Prim.Native.Nat.{ℕ, zero, suc, _+_, _*_, _≤_, _<_}
+use Prim.Native.Nat.{ℕ, _+_, _*_, _≤_, _<_}
 use native.Mathlib.Omega.{arith}
-use native.Mathlib.Decide.{ℕ-discrete, decLt}
+use native.Mathlib.Decide.{ℕ-discrete}
 use borrow.Author.Tests.{ne-eqb}
 use lib.Dec.{eqb}
 use lib.ListN.{length, getD}
 use Rattle.usb_store.specs.Layout.{StoreLength, Used, Hub, Child, MaxChildren}
 use Rattle.usb_store.specs.Access.{byteAt, withBytes, withByte}
-use Rattle.usb_store.proofs.Fields.{Apart, with-length, byte-other, byte-same}
-use Rattle.usb_device.specs.Device.{newDevice}
-use Rattle.usb_device.proofs.Free.{free-most, free-field, free-taken, new-byte}
-use Rattle.usb_device.proofs.NewDevice.{length-new}
+use Rattle.usb_store.proofs.Fields.{with-length, byte-same}
+use Rattle.usb_device.specs.Device.{newDevice, freePlaces}
+use Rattle.usb_device.proofs.Free.{count-not, count-agree, count-one, free-field, free-taken, new-byte, new-elsewhere}
+use Rattle.usb_store.proofs.Cells.{Beside, byte-beside}
 use Rattle.usb_model.specs.World.{World, M}
-use Rattle.usb_model.specs.Count.{isHub, hubsBelow, mostRequests}
+use Rattle.usb_model.specs.Count.{devices, isHub, hubs, mostRequests}
 use Rattle.usb_model.proofs.Costs.{Frame, Costs}
 
 -- 8 for each device, and 444 for each hub
@@ -61,44 +61,22 @@ Keeps k n m = Costs (frame k k (λ s h. h)) n m
 abbrev pub Sends : Known → ℕ → {A : Type 0} → M A → Type 0
 Sends k n m = Costs (frame k nothing (λ s h. forget h)) n m
 
--- ---- bytes that a write leaves
-
--- n bytes from field f on, and the byte of field g
-abbrev pub Beside : ℕ → ℕ → ℕ → Type 0
-Beside f n g = (f + n ≤ g) ⊎ (g + 1 ≤ f)
-
--- a byte of another place, or beside what is written
-other : (s : List ℕ) (p f : ℕ) (vs : List ℕ) (q g : ℕ) → f + length vs ≤ 1152 → g < 1152 → (q ≡ p → Beside f (length vs) g)
-    → byteAt (withBytes s p f vs) q g ≡ byteAt s q g
-other s p f vs q g room low b = byte-other s p f vs q g (go (decLt p q) (decLt q p))
-  where
-    go : Dec (p < q) → Dec (q < p) → Apart p f (length vs) q g 1
-    go (yes l) m = inl (omega arith)
-    go (no l) (yes m) = inr (omega arith)
-    go (no l) (no m) = let e : q ≡ p = omega arith in ⊎-elim (λ x. inl (omega arith)) (λ x. inr (omega arith)) (b e)
-
 -- ---- the budget
 
-hubs-agree : (s t : List ℕ) (n : ℕ) → ((q : ℕ) → q < n → isHub t q ≡ isHub s q) → hubsBelow t n ≡ hubsBelow s n
-unfolding hubsBelow
-hubs-agree s t zero h = refl
-hubs-agree s t (suc n) h = rw (h n (omega arith), hubs-agree s t n (λ q l. h q (omega arith)))
+-- every place is a device or free
+all-places : (s : List ℕ) → freePlaces s + devices s ≡ 32
+all-places s = count-not (λ place. eqb (byteAt s place Used) 0) 32
 
 -- where one place becomes a hub, there is one more, unless it was one
-hubs-more : (s t : List ℕ) (b : Bool) (p n : ℕ) → p < n → isHub s p ≡ not b → isHub t p ≡ true → ((q : ℕ) → q ≢ p → isHub t q ≡ isHub s q)
-    → hubsBelow t n ≡ hubsBelow s n + cond b 1 0
-unfolding hubsBelow
-hubs-more s t b p zero l was is same = absurd (omega arith)
-hubs-more s t b p (suc n) l was is same = go (ℕ-discrete n p) (λ m. hubs-more s t b p n m was is same)
+hubs-more : (s t : List ℕ) (b : Bool) (p : ℕ) → p < 32 → isHub s p ≡ not b → isHub t p ≡ true → ((q : ℕ) → q ≢ p → isHub t q ≡ isHub s q)
+    → hubs t ≡ hubs s + cond b 1 0
+hubs-more s t b p l was is same =
+    let one = rw (was, is) at (count-one (isHub s) (isHub t) p 32 l (λ q _ d. same q d)) in
+    omega (arith, one, part b)
   where
-    one : (b : Bool) (x : ℕ) → 1 + x ≡ cond (not b) 1 0 + x + cond b 1 0
-    one true x = omega arith
-    one false x = omega arith
-
-    go : Dec (n ≡ p) → (p < n → hubsBelow t n ≡ hubsBelow s n + cond b 1 0)
-        → cond (isHub t n) 1 0 + hubsBelow t n ≡ cond (isHub s n) 1 0 + hubsBelow s n + cond b 1 0
-    go (yes e) rest = rw (e, is, was, hubs-agree s t p (λ q m. same q (omega arith))) (one b (hubsBelow s p))
-    go (no d) rest = rw (same n d) (omega (arith, rest (omega arith)))
+    part : (b : Bool) → cond {A = ℕ} (not b) 1 0 + cond b 1 0 ≡ 1
+    part true = refl
+    part false = refl
 
 -- ---- what is known after a write, and what the write adds to the budget
 
@@ -119,10 +97,10 @@ pub record Plain (f n : ℕ) : Type 0 where
 
 module _ {k : Known} {s : List ℕ} (knows : Knows k s) (p f : ℕ) (vs : List ℕ) (c : Clear f (length vs)) where
   used-kept : (q : ℕ) → byteAt (withBytes s p f vs) q Used ≡ byteAt s q Used
-  used-kept q = other s p f vs q Used (c .room) (omega arith) (λ e. inr (c .past))
+  used-kept q = byte-beside s p f vs q Used (c .room) (omega arith) (λ e. inr (c .past))
 
   hub-kept : (q : ℕ) → byteAt (withBytes s p f vs) q Hub ≡ byteAt s q Hub
-  hub-kept q = other s p f vs q Hub (c .room) (omega arith) (λ e. c .hub)
+  hub-kept q = byte-beside s p f vs q Hub (c .room) (omega arith) (λ e. c .hub)
 
   clear-writes : Facts k (withBytes s p f vs) → ((h : ℕ) → byteAt (withBytes s p f vs) h MaxChildren ≤ 10)
       → Wrote k 0 s (withBytes s p f vs)
@@ -130,7 +108,13 @@ module _ {k : Known} {s : List ℕ} (knows : Knows k s) (p f : ℕ) (vs : List �
   clear-writes facts most = record {
     knows = record { whole = with-length s p f vs ∙ knows .whole; most = most; facts = facts };
     gain =
-        omega (arith, free-field s p f vs (c .past) (c .room), hubs-agree s (withBytes s p f vs) 32 (λ q l. rw (used-kept q, hub-kept q)));
+        omega (
+          arith,
+          free-field s p f vs (c .past) (c .room),
+          all-places s,
+          all-places (withBytes s p f vs),
+          count-agree (isHub s) (isHub (withBytes s p f vs)) 32 (λ q l. rw (used-kept q, hub-kept q)),
+        );
   }
 
   -- where no child is written the facts are as they were
@@ -140,11 +124,11 @@ module _ {k : Known} {s : List ℕ} (knows : Knows k s) (p f : ℕ) (vs : List �
       go : (k : Known) → Facts k s → Facts k (withBytes s p f vs)
       go nothing h = tt
       go (place q _) h = (rw (used-kept q) (h .0), rw (hub-kept q) (h .1))
-      go (port q j _) h = (h .0, rw (other s p f vs q (Child j) (c .room) (omega arith) (λ e. b j (h .0))) (h .1))
+      go (port q j _) h = (h .0, rw (byte-beside s p f vs q (Child j) (c .room) (omega arith) (λ e. b j (h .0))) (h .1))
 
   -- where MaxChildren is not written it is as it was
   most-kept : (h : ℕ) → (h ≡ p → Beside f (length vs) MaxChildren) → byteAt (withBytes s p f vs) h MaxChildren ≤ 10
-  most-kept h b = omega (arith, other s p f vs h MaxChildren (c .room) (omega arith) b, knows .most h)
+  most-kept h b = omega (arith, byte-beside s p f vs h MaxChildren (c .room) (omega arith) b, knows .most h)
 
 pub plain-writes : {k : Known} {s : List ℕ} → Knows k s → (p f : ℕ) (vs : List ℕ) → Plain f (length vs) → Wrote k 0 s (withBytes s p f vs)
 plain-writes n p f vs r =
@@ -191,7 +175,9 @@ hub-writes {s} {p} {b} n v inside d = record {
       omega (
         arith,
         free-field s p Hub (v ∷ []) (omega arith) (omega arith),
-        hubs-more s t b p 32 inside (rw (n .facts .0, n .facts .1)) (rw (is-used, is-hub))
+        all-places s,
+        all-places t,
+        hubs-more s t b p inside (rw (n .facts .0, n .facts .1)) (rw (is-used, is-hub))
             (λ q e. rw (kept q Used (omega arith) (λ x. absurd (e x)), kept q Hub (omega arith) (λ x. absurd (e x)))),
       );
 }
@@ -200,7 +186,7 @@ hub-writes {s} {p} {b} n v inside d = record {
     t = withByte s p Hub v
 
     kept : (q g : ℕ) → g < 1152 → (q ≡ p → Beside Hub 1 g) → byteAt t q g ≡ byteAt s q g
-    kept q g l b = other s p Hub (v ∷ []) q g (omega arith) l b
+    kept q g l b = byte-beside s p Hub (v ∷ []) q g (omega arith) l b
 
     is-used : eqb (byteAt t p Used) 0 ≡ false
     is-used = rw (kept p Used (omega arith) (λ e. inr (omega arith))) (n .facts .0)
@@ -218,7 +204,14 @@ new-writes {s} n p inside was = record {
     most = λ h. most h (ℕ-discrete h p);
     facts = (ap (λ (v : ℕ). eqb v 0) (new Used (omega arith)), ap (λ (v : ℕ). eqb v 0) (new Hub (omega arith)));
   };
-  gain = omega (arith, free-most s, free-taken s p (n .whole) inside was, hubs-agree s t 32 (λ q l. agree q (ℕ-discrete q p)));
+  gain =
+      omega (
+        arith,
+        free-taken s p (n .whole) inside was,
+        all-places s,
+        all-places t,
+        count-agree (isHub s) (isHub t) 32 (λ q l. agree q (ℕ-discrete q p)),
+      );
 }
   where
     t : List ℕ
@@ -228,7 +221,7 @@ new-writes {s} n p inside was = record {
     new f l = new-byte s p f (n .whole) inside l
 
     old : (q g : ℕ) → g < 1152 → q ≢ p → byteAt t q g ≡ byteAt s q g
-    old q g l d = other s p 0 (newDevice p) q g (omega (arith, length-new p)) l (λ e. absurd (d e))
+    old q g l d = new-elsewhere s p q g l d
 
     most : (h : ℕ) → Dec (h ≡ p) → byteAt t h MaxChildren ≤ 10
     most h (yes e) = rw e (omega (arith, new MaxChildren (omega arith)))

@@ -14,15 +14,15 @@ use Rattle.usb_model.specs.World.{M}
 use Rattle.usb_model.specs.Features.{PORT-CONNECTION, PORT-ENABLE, PORT-SUSPEND, PORT-OVER-CURRENT, C-PORT-CONNECTION, C-PORT-ENABLE, C-PORT-RESET, bit}
 use Rattle.usb_model.specs.Hub.{hubPortReset2, hubPortConnectionChanged, hubCheckConnection}
 use Rattle.usb_model.specs.History.{Event}
-use Rattle.usb_model.proofs.Functions.{small, speed-low}
+use Rattle.usb_model.proofs.Functions.{small, speed-listed}
 use Rattle.usb_model.proofs.Accepted.{neither}
-use Rattle.usb_model.proofs.Triples.{State, store, Does, does-map, does-pre, does-bind, does-next, does-get, does-when, does-unless, does-ignore, does-keep, does-given, leads-map, Gives}
+use Rattle.usb_model.proofs.Triples.{does-first, State, store, Does, does-pre, does-bind, does-next, does-get, does-when, does-unless, does-ignore, does-keep, does-given, leads-map, Gives}
 use Rattle.usb_model.proofs.Quiet.{Keys, Quiet, quiet-order, keys-clear, second, fourth, put-quiet}
 use Rattle.usb_model.proofs.Quiet as Quiet
-use Rattle.usb_model.proofs.Parts.{Calm, Still, Stilly, waits-still, frame-still, clear-still, power-on-still, port-status-still, status-still}
+use Rattle.usb_model.proofs.Parts.{calm-of-still, Calm, Still, Stilly, waits-still, frame-still, clear-still, power-on-still, port-status-still, status-still}
 use Rattle.usb_model.proofs.Resets.{reset2-does}
 use Rattle.usb_model.proofs.Invariant.{calm-held, stands-kept}
-use Rattle.usb_model.proofs.Middle.{Mid, Fine, fine-calm, calm-of-still, use-kept}
+use Rattle.usb_model.proofs.Middle.{Mid, Fine, fine-calm, use-kept}
 use Rattle.usb_model.proofs.Addresses.{AfterReset, reset-stable}
 use Rattle.usb_model.proofs.Births.{Allocated, does-allocate, new-does, else-same, Coming, Born, put-child, born-mid}
 
@@ -34,7 +34,7 @@ Enters h₀ attach =
 module _ {h₀ : List Event} (H : ℕ → Type 0) where
   -- a part that adds still events and keeps the keys
   pub keeps-fine : {A : Type 0} {S : A → Type 0} {m : M A} → Gives {h₀ = h₀} Stilly S m → Does {h₀ = h₀} (Fine H) m (λ _. Fine H) (Fine H)
-  keeps-fine k = does-map (λ s p. p) (λ _ s q. q .0) (λ s n. n) (does-keep (Fine H) k (λ s t f r. fine-calm (calm-of-still r) f) (λ s f. f))
+  keeps-fine k = does-first (does-keep (Fine H) k (λ s t f r. fine-calm (calm-of-still r) f) (λ s f. f))
 
   module _ (k j : ℕ) (known : H k) (below : k < 32) (low : j < 10) where
     -- the port has no child
@@ -92,12 +92,12 @@ module _ {h₀ : List Event} (H : ℕ → Type 0) where
         }
 
     keeps-vacant : {A : Type 0} {S : A → Type 0} {m : M A} → Gives {h₀ = h₀} Stilly S m → Does Vacant m (λ _. Vacant) (Fine H)
-    keeps-vacant q = does-map (λ s p. p) (λ _ s v. v .0) (λ s n. n) (does-keep Vacant q vacant-still (λ s v. v .is-fine))
+    keeps-vacant q = does-first (does-keep Vacant q vacant-still (λ s v. v .is-fine))
 
     keeps-born : (x : ℕ) {A : Type 0} {S : A → Type 0} {m : M A} → Gives {h₀ = h₀} Stilly S m
         → Does {h₀ = h₀} (Born H k j known below low x) m (λ _. Born H k j known below low x) (Fine H)
     keeps-born x q =
-        does-map (λ s p. p) (λ _ s v. v .0) (λ s n. n) (does-keep (Born H k j known below low x) q (born-still x) (λ s b. b .new .is-fine))
+        does-first (does-keep (Born H k j known below low x) q (born-still x) (λ s b. b .new .is-fine))
 
     module _ (attach : ℕ → M (Unit {0})) (enters : Enters h₀ attach) where
       pub connection-does : Does {h₀ = h₀} (Fine H) (hubPortConnectionChanged attach k j) (λ _. Fine H) (Fine H)
@@ -123,7 +123,7 @@ module _ {h₀ : List Event} (H : ℕ → Type 0) where
           does-next (put-child H k j known below low x) (
           does-next (keeps-born x (port-status-still k j low)) (
           does-bind (keeps-born x (status-still k j)) λ after.
-          does-next (keeps-born x (put-quiet Keys Still x Speed _ (keys-clear second) (small Speed (omega arith) (omega arith)) (speed-low after))) (
+          does-next (keeps-born x (put-quiet Keys Still x Speed _ (keys-clear second) (small Speed (omega arith) (omega arith)) (omega (arith, speed-listed after)))) (
           does-next (keeps-born x (put-quiet Keys Still x Parent _ (keys-clear (fourth (omega arith) (omega arith)))
           (small Parent (omega arith) (omega arith)) (omega arith))) (
           does-next (keeps-born x (put-quiet Keys Still x PortNumber _ (keys-clear (fourth (omega arith) (omega arith)))
@@ -136,11 +136,11 @@ module _ {h₀ : List Event} (H : ℕ → Type 0) where
           does-bind (keeps-fine (status-still k j)) λ before.
           does-next (keeps-fine (port-status-still k j low)) (
           does-bind (keeps-fine (status-still k j)) λ status.
-          does-bind (does-map (λ s p. p) (λ _ s p. p .0) (λ s n. n) (does-get {N = Fine H} k Number)) λ number.
+          does-bind (does-first (does-get {N = Fine H} k Number)) λ number.
           does-next (maybe _ (does-next (does-ignore (keeps-fine (clear-still k PORT-OVER-CURRENT j (omega arith) low)))
           (does-ignore (keeps-fine (power-on-still k))))) (
           does-next (maybe _ (does-next (does-ignore (keeps-fine (clear-still k C-PORT-ENABLE j (omega arith) low))) (
-          does-bind (does-map (λ s p. p) (λ _ s p. p .0) (λ s n. n) (does-get {N = Fine H} k (Child j))) λ child. maybe _ (does-ignore connection-does)))) (
+          does-bind (does-first (does-get {N = Fine H} k (Child j))) λ child. maybe _ (does-ignore connection-does)))) (
           does-next (maybe _ (does-ignore connection-does)) (
           does-next (maybe _ (keeps-fine (clear-still k PORT-SUSPEND j (omega arith) low)))
           (maybe _ (keeps-fine (clear-still k C-PORT-RESET j (omega arith) low)))))))

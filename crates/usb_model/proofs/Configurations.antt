@@ -16,6 +16,7 @@ use Rattle.usb_store.specs.Access.{byteAt, bytesAt, withByte}
 use Rattle.usb_store.specs.Values.{Addressed, Configured}
 use Rattle.usb_store.proofs.Fields.{Apart, bytes-length, bytes-most}
 use Rattle.usb_device.specs.Device.{firstUnused}
+use Rattle.usb_store.proofs.Cells.{spot-apart}
 use Rattle.usb_model.specs.World.{M, getBytes, getNumber, put, putBytes}
 use Rattle.usb_model.specs.Transfer.{Outcome, into, nowhere, read, usbGetDescriptor}
 use Rattle.usb_model.specs.Walk.{RecordLength, walk}
@@ -26,8 +27,8 @@ use Rattle.usb_model.specs.Demand3.{Once, now, ago, ConfiguredWith, conf
 use Rattle.usb_model.proofs.Bytes.{bytes-at, byte-at}
 use Rattle.usb_model.proofs.Record.{walk-long, walk-bytes}
 use Rattle.usb_model.proofs.Functions.{small}
-use Rattle.usb_model.proofs.Triples.{State, store, Does, does-map, does-pre, does-bind, does-next, does-return, does-get, does-known, does-unless, does-succeed, does-store, does-keep, does-given, Gives, Keeps, k-look}
-use Rattle.usb_model.proofs.Quiet.{Key, value, Keys, Quiet, quiet-order, keys-clear, fourth, last, put-quiet, bytes-quiet, write-quiet, spot-apart, key-low}
+use Rattle.usb_model.proofs.Triples.{does-first, State, store, Does, does-map, does-pre, does-bind, does-next, does-return, does-get, does-known, does-unless, does-succeed, does-store, does-keep, does-given, Gives, Keeps, k-look}
+use Rattle.usb_model.proofs.Quiet.{Key, value, Keys, Quiet, quiet-order, keys-clear, fourth, last, put-quiet, bytes-quiet, write-quiet, key-low}
 use Rattle.usb_model.proofs.Quiet as Quiet
 use Rattle.usb_model.proofs.Messages.{Sendable, Answered, Acknowledged, Unacknowledged, control-does, read-quiet}
 use Rattle.usb_model.proofs.Parts.{Still, Stilly, still-device, sends-none, sends-into, head-keys}
@@ -58,16 +59,16 @@ head-sendable x = sends-into
     (omega arith) (omega arith) (omega arith) (omega arith) (omega arith)
   where
     clear : (q g : ℕ) → Spared x q g → Apart x ConfigurationDescriptor 9 q g 1
-    clear q g (spared k n) = spot-apart x ConfigurationDescriptor 9 q g (omega arith) (key-low k) (λ e. away k (n (sym e)))
+    clear q g (spared k n) = spot-apart x ConfigurationDescriptor 9 q g (omega arith) (key-low k) (λ e. away k (n e))
+
+-- a device that may become a hub, or is one
+pub record Settled {h₀ : List Event} (H : ℕ → Type 0) (x : ℕ) (s : State h₀) : Type 0 where
+  pub is-fine : Fine H s
+  pub number : byteAt (store s) x Number ≡ x + 1
+  pub used : byteAt (store s) x Used ≡ 1
+  pub first : x + 1 ≤ firstUnused (store s)
 
 module _ {h₀ : List Event} (H : ℕ → Type 0) (x : ℕ) (inside : x < 32) where
-  -- attached and configured, and no hub yet
-  pub record Settled (s : State h₀) : Type 0 where
-    pub is-fine : Fine H s
-    pub settled-number : byteAt (store s) x Number ≡ x + 1
-    pub settled-use : byteAt (store s) x Used ≡ 1
-    pub settled-first : x + 1 ≤ firstUnused (store s)
-
   abbrev Ready : State h₀ → Type 0
   Ready = At H x inside Addressed (x + 1)
 
@@ -115,7 +116,7 @@ module _ {h₀ : List Event} (H : ℕ → Type 0) (x : ℕ) (inside : x < 32) wh
           told = subst (Once (ConfiguredWith x v Anything)) (sym (a .past)) (now (configured tt (u .good)));
         }
 
-    settle : (s : State h₀) → Acked Configured s → Settled s
+    settle : (s : State h₀) → Acked Configured s → Settled H x s
     settle s a =
         let m = a .middle in
         let shown : ShownConfigured (store s) x = record { device = (inside, m .used); status = m .status } in
@@ -130,9 +131,9 @@ module _ {h₀ : List Event} (H : ℕ → Type 0) (x : ℕ) (inside : x < 32) wh
             }) (λ _. shown);
             known = m .known;
           };
-          settled-number = m .number;
-          settled-use = m .used;
-          settled-first = m .first;
+          number = m .number;
+          used = m .used;
+          first = m .first;
         }
       where
         tell : Origin (store s) x (AfterConfigured x v) (s .past) → Story (store s) x (s .past)
@@ -149,13 +150,13 @@ module _ {h₀ : List Event} (H : ℕ → Type 0) (x : ℕ) (inside : x < 32) wh
     }
 
     index-put : Does (Acked Addressed) (put x ConfigurationIndex v) (λ _. Acked Addressed) (Fine H)
-    unfolding put
+    unfolding putBytes
     index-put = does-store (λ t. withByte t x ConfigurationIndex v) (λ s a.
         let w = own-follows H x inside ConfigurationIndex v s (omega arith) (omega arith) small-value in
         (w, acked-still s _ a (write-quiet Keys Still s x ConfigurationIndex (v ∷ []) 1 w (keys-clear (fourth (omega arith) (omega arith))) (omega arith))))
 
-    status-put : Does (Acked Addressed) (put x Status Configured) (λ _. Settled) (Fine H)
-    unfolding put
+    status-put : Does (Acked Addressed) (put x Status Configured) (λ _. Settled H x) (Fine H)
+    unfolding putBytes
     status-put = does-store (λ t. withByte t x Status Configured) (λ s a.
         let w = own-follows H x inside Status Configured s (omega arith) (omega arith) (omega arith) in (
           w,
@@ -171,7 +172,7 @@ module _ {h₀ : List Event} (H : ℕ → Type 0) (x : ℕ) (inside : x < 32) wh
           }),
         ))
 
-    set-configure-does : Does Before (usbSetConfigure x v) (λ _. Settled) (Fine H)
+    set-configure-does : Does Before (usbSetConfigure x v) (λ _. Settled H x) (Fine H)
     unfolding usbSetConfigure
     set-configure-does =
         does-known _ x Status Addressed (λ s m. m .middle .status) (
@@ -222,7 +223,7 @@ module _ {h₀ : List Event} (H : ℕ → Type 0) (x : ℕ) (inside : x < 32) wh
       k-look (quiet-order Keys Still) _
       (λ s. (bytes-at (store s) x Interfaces RecordLength (s .good .store), bytes-most (store s) x Interfaces RecordLength))
 
-  pub configure-does : Does Ready (usbConfigure x 0) (λ _. Settled) (Fine H)
+  pub configure-does : Does Ready (usbConfigure x 0) (λ _. Settled H x) (Fine H)
   unfolding usbConfigure
   configure-does =
       does-known _ x Status Addressed (λ s m. m .status) (
@@ -235,11 +236,11 @@ module _ {h₀ : List Event} (H : ℕ → Type 0) (x : ℕ) (inside : x < 32) wh
       does-bind (keep-ready (full-still total low)) λ full.
       does-given (λ s m. m .1) λ bytes.
       does-pre (λ s m. m .0) (
-      does-next (does-map (λ s p. p) (λ _ s m. m .0) (λ s n. n) (keep-ready (index-still 0 (omega arith)))) (
+      does-next (does-first (keep-ready (index-still 0 (omega arith)))) (
       does-bind (keep-ready record-still) λ kept.
       does-given (λ s m. m .1) λ k.
       does-pre (λ s m. m .0) (
-      does-next (does-map (λ s p. p) (λ _ s m. m .0) (λ s n. n) (keep-ready (walked-still full kept bytes (k .0) (k .1)))) (
+      does-next (does-first (keep-ready (walked-still full kept bytes (k .0) (k .1)))) (
       does-next (does-succeed (walk full kept .answer) (λ e. at-fine)) (
       does-pre (λ s m. m .0) (
       does-bind (does-get x ConfigurationValue) λ v.

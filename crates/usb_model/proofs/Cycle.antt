@@ -13,7 +13,7 @@ use Rattle.usb_model.specs.Hub.{hubPortConnectionChanged, hubCheckConnec
 use Rattle.usb_model.specs.Attach.{usbAttachDevice, attachBelow, attachNew, usbAttachRootHub}
 use Rattle.usb_model.proofs.Keeps.{bind, next, throws, succeeds, attempts, ignores, whens, skips}
 use Rattle.usb_model.proofs.Primitives.{gets, gets-most, puts, puts-most, puts-child, waits, frames}
-use Rattle.usb_model.proofs.Functions.{middle, small, read-device-descriptor, set-address, configures, read-hub-descriptor, get-status, change-feature, power-on, port-get-status, port-status, reset2, port-of-child, speed-low}
+use Rattle.usb_model.proofs.Functions.{middle, small, read-device-descriptor, set-address, configures, read-hub-descriptor, get-status, change-feature, power-on, port-get-status, port-status, reset2, port-of-child, speed-listed}
 use Rattle.usb_model.proofs.Pairs.{Alike, known, one, bind₂, next₂, bind₁, next₁, attempts₂, ignores₂, whens₂, eachs₂, child₂, allocate₂}
 
 module _ {u : World} (attach attach′ : ℕ → M (Unit {0}))
@@ -31,7 +31,7 @@ module _ {u : World} (attach attach′ : ℕ → M (Unit {0}))
       next₁ (puts-child hub port _ l (omega arith) (omega arith)) (
       next₁ (port-get-status hub port l) (
       bind₁ (port-status hub port) λ after _.
-      next₁ (puts place Speed _ (small Speed (omega arith) (omega arith)) (speed-low after)) (
+      next₁ (puts place Speed _ (small Speed (omega arith) (omega arith)) (omega (arith, speed-listed after))) (
       next₁ (puts place Parent _ (small Parent (omega arith) (omega arith)) (omega arith)) (
       next₁ (puts place PortNumber _ (small PortNumber (omega arith) (omega arith)) (omega arith)) (
       attaches v less place inside))))))))))))
@@ -114,7 +114,7 @@ root-hub u speed h = allocate₂ λ v place less l inside.
 -- ---- scan
 
 module _ (free : ℕ) where
-  scan-port : {u : World} {below below′ : ℕ → M (Unit {0})} {n : ℕ} (hub port : ℕ) → hub < n → port < 10
+  pub scan-port : {u : World} {below below′ : ℕ → M (Unit {0})} {n : ℕ} (hub port : ℕ) → hub < n → port < 10
       → ((v : World) (place : ℕ) → hub < place → Alike v (place + 1) (below place) (below′ place))
       → Alike u n (scanPort (attachBelow free) below hub port) (scanPort (attachBelow free) below′ hub port)
   unfolding scanPort

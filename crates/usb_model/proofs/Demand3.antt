@@ -5,7 +5,6 @@ use mathlib.Core.Logic.{_≢_}
 use mathlib.Core.List.{List, []}
 use Prim.Native.Nat.{ℕ, _+_, _*_, _≤_, _<_}
 use native.Mathlib.Omega.{arith}
-use borrow.Author.Tests.{ltb-false}
 use lib.ListN.{replicate}
 use Rattle.usb_store.specs.Layout.{StoreLength, Status, Hub}
 use Rattle.usb_store.specs.Access.{byteAt, offset}
@@ -16,13 +15,13 @@ use Rattle.usb_place.proofs.Tests.{replicate-zero}
 use Rattle.usb_model.specs.Programs.{Ran, endOf}
 use Rattle.usb_model.specs.World.{World}
 use Rattle.usb_model.specs.Attach.{attachNew}
-use Rattle.usb_model.specs.Entry.{Lent, accepted, noPort, start, answered, call, rootAttach, scan, portCheck}
+use Rattle.usb_model.specs.Entry.{Lent, accepted, noPort, start, call, rootAttach, scan, portCheck}
 use Rattle.usb_model.specs.Kept.{LentBytes}
 use Rattle.usb_model.specs.History.{Event, Reading, readLog, joined, configures, count}
 use Rattle.usb_model.specs.Demand3.{Call, attaches, scans, checks, verdict, program, entry, Ended, finished, failed, Reached, empty, refusal, ran, ShownConfigured, Stands, Demand3}
 use Rattle.usb_model.proofs.Walks.{Reach, reach-here}
 use Rattle.usb_model.proofs.Cycle.{attach-walks, check-connection, root-hub, check-for-change}
-use Rattle.usb_model.proofs.Accepted.{root-accepted, hub-accepted}
+use Rattle.usb_model.proofs.Accepted.{port-inside, root-accepted, hub-accepted}
 use Rattle.usb_model.proofs.Entries.{start-good}
 use Rattle.usb_model.proofs.Bound.{root-attach-requests}
 use Rattle.usb_model.proofs.Keeps.{Any, Left, left-holds}
@@ -93,14 +92,34 @@ joined-is {h} {H} {w} outcomes e o n l =
     let same : n ≡ r .actions = omega (arith, l, r .logged) in
     rw (← o, same) (ap (λ (x : Reading). x .past) (r .is))
 
-module _ (lent : Lent) (bytes : LentBytes lent) {h : List Event} (k : Kept (lent .old) h) {w : World} (c : Call) (ends : Ended (program c (start lent)) w) where
+-- what a call does, from the first world on
+pub call-walks : (lent : Lent) → LentBytes lent → (c : Call) → verdict c lent ≡ accepted
+    → (m : ℕ) × Left (Reach (start lent) m) Any (program c (start lent))
+call-walks lent bytes (attaches speed) v =
+    let x = root-accepted lent speed v in
+    let here = reach-here {n = 0} (start lent) (start-good lent bytes (x .is-sound)) (omega arith) in
+    (0, root-hub (start lent) speed (omega (arith, x .low)) .run (start lent) here .walk)
+call-walks lent bytes (scans hub) v =
+    let x = hub-accepted lent hub false v in
+    let here = reach-here (start lent) (start-good lent bytes (x .is-sound)) (x .first) in
+    (hub + 1, check-for-change 32 (start lent) 32 hub .run (start lent) here .walk)
+call-walks lent bytes (checks hub port) v =
+    let x = hub-accepted lent hub (noPort port) v in
+    let here = reach-here (start lent) (start-good lent bytes (x .is-sound)) (x .first) in
+    let low = port-inside port (x .good) in
+    let walks = check-connection attachNew attachNew (λ v _. attach-walks 32 v) {n = hub + 1} hub port (omega arith) low in
+    (hub + 1, walks .run (start lent) here .walk)
+
+module _ (lent : Lent) (bytes : LentBytes lent) {h : List Event} (k : Kept (lent .old) h) {w : World}
+    (c : Call) (v : verdict c lent ≡ accepted) (ends : Ended (program c (start lent)) w) where
   -- a run that is claimed, walks and stays sound
-  kept-ran : {H : ℕ → Type 0} {m : ℕ} → Leads {h₀ = h} (λ _. Fine H) (Fine H) (program c (start lent))
-      → Left (Reach (start lent) m) Any (program c (start lent)) → Stays (program c) (start lent) → (n : ℕ) → w .at .logged ≡ 16 * n
+  kept-ran : {H : ℕ → Type 0} → Leads {h₀ = h} (λ _. Fine H) (Fine H) (program c (start lent)) → Stays (program c) (start lent)
+      → (n : ℕ) → w .at .logged ≡ 16 * n
       → Kept (w .store) (joined n (w .log) (lent .outcomes) h)
-  kept-ran {H} {m} x y z n l =
+  kept-ran {H} x z n l =
       let e = leads-ended x ends in
-      let o = subst (Reach (start lent) m) (left-ended ends) (left-holds y) .onward in
+      let y = call-walks lent bytes c v in
+      let o = subst (Reach (start lent) (y .0)) (left-ended ends) (left-holds (y .1)) .onward in
       let i = e .is-fine .inv in
       let past : e .state .past ≡ joined n (w .log) (lent .outcomes) h = sym (joined-is (lent .outcomes) e (o .outcomes) n l) in
       let same : store (e .state) ≡ w .store = ap (λ (v : World). v .store) (e .is) in
@@ -132,29 +151,25 @@ kept-call : (lent : Lent) (bytes : LentBytes lent) {h : List Event} → Kept (le
 kept-call lent bytes {h} k (attaches speed) v e n l =
     let x = root-accepted lent speed v in
     let s = first-state lent bytes (x .is-sound) h in
-    kept-ran lent bytes k (attaches speed) e
+    kept-ran lent bytes k (attaches speed) v e
     (root-does speed (omega (arith, x .low)) .run s (record {
       inv = record { place = λ p m _. k .place p m; belongs = λ a _ m. k .belongs a m };
       unused = x .unused;
     }))
-    (root-hub (start lent) speed (omega (arith, x .low)) .run (start lent) (reach-here (start lent) (s .good) (omega arith)) .walk)
     (root-hub-stays (start lent) (x .is-sound) (x .unused) speed (x .low)) n l
 kept-call lent bytes {h} k (scans hub) v e n l =
     let x = hub-accepted lent hub false v in
     let s = first-state lent bytes (x .is-sound) h in
-    kept-ran lent bytes k (scans hub) e
+    kept-ran lent bytes k (scans hub) v e
     (scan-does 32 32 hub (λ q. q ≡ hub) refl (x .inside) .run s (hub-fine lent bytes (x .is-sound) k hub (x .is-hub) (x .first)))
-    (check-for-change 32 (start lent) 32 hub .run (start lent) (reach-here (start lent) (s .good) (x .first)) .walk)
     (check-for-change-stays (start lent) (x .is-sound) (hub-place (x .is-sound) (x .inside) (x .is-hub)) 32 32) n l
 kept-call lent bytes {h} k (checks hub port) v e n l =
     let x = hub-accepted lent hub (noPort port) v in
     let s = first-state lent bytes (x .is-sound) h in
-    let low : port < 10 = omega (arith, ltb-false 9 port (x .good)) in
-    kept-ran lent bytes k (checks hub port) e
+    let low = port-inside port (x .good) in
+    kept-ran lent bytes k (checks hub port) v e
     (check-does (λ q. q ≡ hub) hub port refl (x .inside) low attachNew (attach-below-does 32) .run s
     (hub-fine lent bytes (x .is-sound) k hub (x .is-hub) (x .first)))
-    (check-connection attachNew attachNew (λ v _. attach-walks 32 v) hub port (omega arith) low .run (start lent)
-    (reach-here (start lent) (s .good) (x .first)) .walk)
     (check-connection-stays (start lent) (x .is-sound) (hub-place (x .is-sound) (x .inside) (x .is-hub)) 32 port low) n l
 
 kept : {s : List ℕ} {h : List Event} → Reached s h → Kept s h
@@ -201,9 +216,4 @@ checks-is hub port lent = refl
 pub leaves-ended : (c : Call) (lent : Lent) {w : World} → verdict c lent ≡ accepted → Ended (program c (start lent)) w
     → (entry c lent .new ≡ w .store) × (entry c lent .log ≡ w .log) × (entry c lent .requests ≡ w .at .requests)
 unfolding call
-leaves-ended c lent {w} v e = rw v (go e)
-  where
-    go : {r : Ran World (Unit {0})} → Ended r w
-        → (answered r .new ≡ w .store) × (answered r .log ≡ w .log) × (answered r .requests ≡ w .at .requests)
-    go finished = (refl, refl, refl)
-    go failed = (refl, refl, refl)
+leaves-ended c lent {w} v e = rw (v, left-ended e) (refl, refl, refl)

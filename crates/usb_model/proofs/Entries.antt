@@ -6,7 +6,6 @@ use mathlib.Core.List.{List, []}
 use Prim.Native.Nat.{ℕ, _+_, _≤_, _<_}
 use native.Mathlib.Omega.{arith}
 use native.Mathlib.Decide.{decLt}
-use borrow.Author.Tests.{ltb-false}
 use lib.Dec.{eqb, ltb}
 use lib.IntN.{ℤ}
 use lib.ListN.{length, List·getD-eq-default}
@@ -24,14 +23,14 @@ use Rattle.usb_store.specs.Layout.{StoreLength, Child, MaxChildren}
 use Rattle.usb_store.specs.Access.{byteAt}
 use Rattle.usb_store.proofs.Writes.{write-nil}
 use Rattle.usb_sound.specs.Sound.{Sound}
-use Rattle.usb_sound.proofs.Hubs.{child-below}
+use Rattle.usb_sound.proofs.Hubs.{child-below, used-leads}
 use Rattle.usb_model.specs.Programs.{Ran}
 use Rattle.usb_model.specs.World.{World, M}
 use Rattle.usb_model.specs.Walk.{RecordLength, walk}
 use Rattle.usb_model.specs.Attach.{attachNew, usbAttachRootHub}
 use Rattle.usb_model.specs.Entry.{Lent, Verdict, accepted, refused, isUnused, noPort, rootVerdict, hubVerdict, start, leaves, answered, call, rootAttach, scan, portCheck, childReset, childCheck, retriedReset, connectionChange, configurationWalk}
 use Rattle.usb_model.specs.Kept.{Bytes, requestsIn, Above, Good, Onward, Listed, LentBytes, Accounts, WalkAccounts}
-use Rattle.usb_model.proofs.Accepted.{used-below, root-accepted, hub-accepted}
+use Rattle.usb_model.proofs.Accepted.{port-inside, root-accepted, hub-accepted}
 use Rattle.usb_model.proofs.Keeps.{Any, Left, is-done, is-failed, is-halted}
 use Rattle.usb_model.proofs.Walks.{Reach, reach-here}
 use Rattle.usb_model.proofs.Record.{walk-long, walk-bytes}
@@ -66,7 +65,7 @@ module _ (lent : Lent) (bytes : LentBytes lent) (r : Sound (lent .old)) where
       child : (h q : ℕ) → q < 10 → byteAt (lent .old) h (Child q) ≢ 0 → Dec (h < 32) → Above (lent .old) h q
       child h q l n (yes m) =
           let b = child-below (lent .old) r h q m l n in
-          record { above = omega (arith, b .above, n); used = omega (arith, used-below (lent .old) r _ (b .inside) (b .used), n) }
+          record { above = omega (arith, b .above, n); used = omega (arith, used-leads (lent .old) r _ (b .inside, b .used), n) }
       child h q l n (no m) = absurd (n (outside (lent .old) h (Child q) (r .whole) (omega arith)))
 
 -- ---- answers of the table
@@ -171,13 +170,13 @@ module _ (lent : Lent) (bytes : LentBytes lent) where
   unfolding portCheck
   port-check-accounts hub port =
       of-hub hub (noPort port) _
-      (λ e. check-connection attachNew attachNew (λ v _. attach-walks 32 v) hub port (omega arith) (omega (arith, ltb-false 9 port e)))
+      (λ e. check-connection attachNew attachNew (λ v _. attach-walks 32 v) hub port (omega arith) (port-inside port e))
 
   pub connection-change-accounts : (hub port : ℕ) → Accounts lent (connectionChange hub port lent)
   unfolding connectionChange
   connection-change-accounts hub port =
       of-hub hub (noPort port) _
-      (λ e. connection-changed attachNew attachNew (λ v _. attach-walks 32 v) hub port (omega arith) (omega (arith, ltb-false 9 port e)))
+      (λ e. connection-changed attachNew attachNew (λ v _. attach-walks 32 v) hub port (omega arith) (port-inside port e))
 
   pub child-check-accounts : (hub child : ℕ) → Accounts lent (childCheck hub child lent)
   unfolding childCheck
@@ -190,7 +189,7 @@ module _ (lent : Lent) (bytes : LentBytes lent) where
 
   pub retried-reset-accounts : (hub port : ℕ) → Accounts lent (retriedReset hub port lent)
   unfolding retriedReset
-  retried-reset-accounts hub port = of-hub hub (noPort port) _ (λ e. one (reset hub port (omega (arith, ltb-false 9 port e))))
+  retried-reset-accounts hub port = of-hub hub (noPort port) _ (λ e. one (reset hub port (port-inside port e)))
 
 pub walk-accounts : (descriptors kept : List ℕ) → Bytes descriptors → Bytes kept → WalkAccounts kept (configurationWalk descriptors kept)
 unfolding configurationWalk

@@ -14,8 +14,7 @@ use Rattle.usb_model.specs.World.{World, M, logAction, logRequest, micro
 use Rattle.usb_model.specs.Transfer.{Outcome, taken, outcomesLeft, sizeOf, outcomeOf, takeOutcome}
 use Rattle.usb_model.specs.Kept.{Bytes}
 use Rattle.usb_model.specs.History.{Event, asked, waited, framed, Reading, reading, readAction}
-use Rattle.usb_model.proofs.Bytes.{bytes-cons, bytes-append, zeros, bytes-le}
-use Rattle.usb_model.proofs.Primitives.{log-good, took-good, delivered-bytes}
+use Rattle.usb_model.proofs.Primitives.{wait-bytes, frame-bytes, log-good, took-good, delivered-bytes}
 use Rattle.usb_model.proofs.Reading.{reads-more, reads-wait, reads-frame, reads-request, TwoBytes}
 use Rattle.usb_model.proofs.Ways.{Logged, Logs, full, logged, log-ends, request-ends, Takes, missing, whole, take-ends}
 use Rattle.usb_model.proofs.Triples.{State, store, Leads, fine, gone, Does}
@@ -53,12 +52,11 @@ module _ {h₀ : List Event} where
   pub wait-adds : {P N : State h₀ → Type 0} (us : ℕ) → us < 256 ^ 4 → Does P (microDelay us) (λ _. Added P (waited us)) N
   unfolding microDelay
   wait-adds us h =
-      action-adds (waitAction us) (waited us) (wait-length us)
-      (bytes-append (bytes-cons (omega arith) (zeros 7)) (bytes-append (bytes-le 4 us) (zeros 4))) (λ r. reads-wait us r h)
+      action-adds (waitAction us) (waited us) (wait-length us) (wait-bytes us) (λ r. reads-wait us r h)
 
   pub frame-adds : {P N : State h₀ → Type 0} → Does P dwcUpdateHostFrameInterval (λ _. Added P framed) N
   unfolding dwcUpdateHostFrameInterval
-  frame-adds = action-adds frameIntervalAction framed frame-length (bytes-cons (omega arith) (zeros 15)) reads-frame
+  frame-adds = action-adds frameIntervalAction framed frame-length frame-bytes reads-frame
 
   -- ---- a request and its outcome
 

@@ -1,7 +1,7 @@
 -- Every function of the driver walks. Assumes nothing.
 use mathlib.Core.Path.{_≡_, refl}
 use mathlib.Core.Bool.{Bool, true, false, cond, not, _&&_, _||_, and-eq-true-iff}
-use mathlib.Core.Logic.{inl, inr}
+use mathlib.Core.Logic.{inr}
 use Prim.Native.Nat.{ℕ, zero, suc, _+_, _*_, _≤_, _<_}
 use native.Mathlib.Omega.{arith}
 use borrow.Author.Tests.{ltb-true, not-false}
@@ -16,7 +16,7 @@ use Rattle.usb_model.specs.Usbd.{readDeviceDescriptor, usbReadDeviceDesc
 use Rattle.usb_model.specs.Hub.{hubReadDescriptor, hubGetStatus, hubChangePortFeature, hubPowerOn, hubPortGetStatus, portStatus, awaitReset, hubPortReset2, awaitEnabled, resetTries, hubPortReset, portOfChild, hubChildReset, speedOf}
 use Rattle.usb_model.specs.Kept.{Bytes}
 use Rattle.usb_model.proofs.Bytes.{bytes-blank}
-use Rattle.usb_model.proofs.Stores.{Plain}
+use Rattle.usb_model.proofs.Stores.{plain-low, Plain}
 use Rattle.usb_model.proofs.Record.{walk-long, walk-bytes}
 use Rattle.usb_model.proofs.Keeps.{bind, next, gives, skips, throws, succeeds, ignores, either, whens, unless, eachs}
 use Rattle.usb_model.proofs.Walks.{Walks, Goes}
@@ -52,11 +52,11 @@ none = room-none refl
 
 -- a buffer before the children
 low : (field room : ℕ) → 0 < field → field + room ≤ 96 → Fits (into field room)
-low field room h l = plain (record { past = h; room = omega arith; apart = inl l })
+low field room h l = plain (plain-low h l)
 
 -- a byte before the children
 pub small : (f : ℕ) → 0 < f → f < 96 → Plain f 1
-small f h l = record { past = h; room = omega arith; apart = inl (omega arith) }
+small f h l = plain-low h (omega arith)
 
 module _ {u : World} {n : ℕ} where
   descriptors : (p recipient type index size minimum : ℕ) {b : Buffer} → recipient < 128 → Fits b
@@ -123,7 +123,7 @@ module _ {u : World} {n : ℕ} where
       bind (descriptors p ToHub 41 0 2 2 (omega arith) none) λ header b.
       bind (gets p Hub) λ data′ _.
       next (whens _ (next (puts p Hub _ (small Hub (omega arith) (omega arith)) (omega arith))
-      (puts-bytes p HubDescriptor 9 _ (record { past = omega arith; room = omega arith; apart = inl (omega arith) }) (omega arith) (bytes-blank 9)))) (
+      (puts-bytes p HubDescriptor 9 _ (plain-low (omega arith) (omega arith)) (omega arith) (bytes-blank 9)))) (
       next (descriptors p ToHub 41 0 _ _ (omega arith) (low HubDescriptor 9 (omega arith) (omega arith))) skips)
 
   pub get-status : (p : ℕ) → Goes u n (hubGetStatus p)
@@ -204,11 +204,11 @@ module _ {u : World} {n : ℕ} where
   unfolding hubChildReset
   child-reset p child = bind (port-of-child p child) λ port h. reset2 p port h
 
-pub speed-low : (status : ℕ) → speedOf status < 256
+pub speed-listed : (status : ℕ) → speedOf status < 3
 unfolding speedOf
-speed-low status = go (bit PORT-LOW-SPEED status) (bit PORT-HIGH-SPEED status)
+speed-listed status = go (bit PORT-LOW-SPEED status) (bit PORT-HIGH-SPEED status)
   where
-    go : (a b : Bool) → cond {A = ℕ} a 2 (cond b 0 1) < 256
+    go : (a b : Bool) → cond {A = ℕ} a 2 (cond b 0 1) < 3
     go true b = omega arith
     go false true = omega arith
     go false false = omega arith

@@ -22,7 +22,7 @@ use Rattle.usb_model.specs.Transfer.{Outcome, Buffer, usbControlMessage,
 use Rattle.usb_model.specs.Kept.{Bytes}
 use Rattle.usb_model.specs.History.{Event, asked, acknowledged}
 use Rattle.usb_model.proofs.Bytes.{bytes-le, bytes-take, byte-at}
-use Rattle.usb_model.proofs.Stores.{Follows, Plain, plain-less, none-follows, plain-follows}
+use Rattle.usb_model.proofs.Stores.{plain-low, Follows, Plain, plain-less, none-follows, plain-follows}
 use Rattle.usb_model.proofs.Primitives.{Byte-codes, request-bytes, packet-low, Fits, room-none, plain}
 use Rattle.usb_model.proofs.Reading.{TwoBytes}
 use Rattle.usb_model.proofs.Triples.{State, store, Does, does-pre, does-bind, does-next, does-return, does-get, does-succeed, does-store, does-given, does-known, leads-map, Gives, k-bind, k-next, k-get, k-when, k-throw, k-return}
@@ -48,7 +48,7 @@ pub record Sendable (K : ℕ → ℕ → Type 0) (p : ℕ) (q : UsbDeviceRequest
 -- ---- four bytes of the error or of the last transfer
 
 head-plain : (f : ℕ) → 8 ≤ f → f ≤ 12 → Plain f 4
-head-plain f l m = record { past = omega arith; room = omega arith; apart = inl (omega arith) }
+head-plain f l m = plain-low (omega arith) (omega arith)
 
 head-other : {K : ℕ → ℕ → Type 0} (p f v r g : ℕ) (t : List ℕ) → Clear K p 8 8 → 8 ≤ f → f ≤ 12 → K r g
     → byteAt (withNumber t p f 4 v) r g ≡ byteAt t r g
@@ -100,7 +100,7 @@ module _ {h₀ : List Event} (K : ℕ → ℕ → Type 0) (p : ℕ) (q : UsbDevi
 
   module _ {P N : State h₀ → Type 0} (send : Sendable K p q b) (address : ℕ) (o : Outcome) where
     error-noted : (v : ℕ) → Does (Asked P address q o) (putNumber p Error 4 v) (λ _. Noted P address o) N
-    unfolding putNumber
+    unfolding putBytes
     error-noted v = does-store (λ t. withNumber t p Error 4 v) (λ s a. (
       head-follows p Error v s (omega arith) (omega arith),
       record {
@@ -131,7 +131,7 @@ module _ {h₀ : List Event} (K : ℕ → ℕ → Type 0) (p : ℕ) (q : UsbDevi
     ))
 
     last-noted : (v : ℕ) → Does (Answered P address o) (putNumber p LastTransfer 4 v) (λ _. Answered P address o) N
-    unfolding putNumber
+    unfolding putBytes
     last-noted v = does-store (λ t. withNumber t p LastTransfer 4 v) (λ s a. (
       head-follows p LastTransfer v s (omega arith) (omega arith),
       record {
@@ -186,10 +186,13 @@ module _ {h₀ : List Event} (K : ℕ → ℕ → Type 0) (p : ℕ) (q : UsbDevi
 
   -- ---- as a step that keeps K and adds an event of E
 
+  pub answered-step : {E : Event → Type 0} {P : State h₀ → Type 0} {t : State h₀} {address : ℕ} {o : Outcome} → E (asked address q o)
+      → (a : Answered P address o t) → Quiet K E (a .before) t
+  answered-step e a = record { keep = a .keep; past = adds-one e (a .past) }
+
   answered-quiet : {E : Event → Type 0} {s t : State h₀} {address : ℕ} {o : Outcome} → ((o : Outcome) → E (asked address q o))
       → Answered (λ u. u ≡ s) address o t → Quiet K E s t
-  answered-quiet {E} {s} {t} {address} {o} e a =
-      subst (λ (u : State h₀). Quiet K E u t) (a .pre) (record { keep = a .keep; past = adds-one (e o) (a .past) })
+  answered-quiet {E} {s} {t} {address} {o} e a = subst (λ (u : State h₀). Quiet K E u t) (a .pre) (answered-step (e o) a)
 
   pub message-quiet : {E : Event → Type 0} → Sendable K p q b → ((address : ℕ) (o : Outcome) → E (asked address q o)) → (address : ℕ)
       → address < 256 → Gives {h₀ = h₀} (Quiet K E) Bytes (usbControlMessage p address q b)

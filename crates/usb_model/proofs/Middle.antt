@@ -9,15 +9,15 @@ use lib.ListN.{length}
 use Rattle.usb_store.specs.Layout.{Used, Number, Status, Hub, ConfigurationValue, Child}
 use Rattle.usb_store.specs.Access.{byteAt, withBytes}
 use Rattle.usb_store.specs.Values.{Configured}
-use Rattle.usb_store.proofs.Fields.{byte-other}
 use Rattle.usb_device.specs.Device.{firstUnused}
+use Rattle.usb_store.proofs.Cells.{byte-beside}
 use Rattle.usb_model.specs.History.{Event, setsAddress, configures, count}
 use Rattle.usb_model.specs.Demand3.{Stands}
 use Rattle.usb_model.proofs.Stores.{Follows, first-kept}
 use Rattle.usb_model.proofs.Triples.{State, store, stored}
-use Rattle.usb_model.proofs.Quiet.{Key, used, number, status, hub, key-low, Keys, Adds, none, adds-map, adds-one, Quiet, spot-apart}
+use Rattle.usb_model.proofs.Quiet.{Key, used, number, status, hub, key-low, Keys, Adds, none, adds-one, Quiet}
 use Rattle.usb_model.proofs.Quiet as Quiet
-use Rattle.usb_model.proofs.Parts.{Calm, Still}
+use Rattle.usb_model.proofs.Parts.{calm-of-still, Calm, Still}
 use Rattle.usb_model.proofs.Invariant.{expected, But, Inv, count-adds, Held, other, its-use, its-child, Aside, calm-held, stands-kept, but-kept, Only, back}
 
 -- where a place that is being attached comes from: it is the root hub, or it stands at a port of which R holds
@@ -84,9 +84,6 @@ module _ {h₀ : List Event} where
     known = hubs-kept (λ q _. r .keep q Hub hub) (use-kept (store s) (store t) (λ q. r .keep q Used Quiet.used)) (f .known);
   }
 
-  pub calm-of-still : {s t : State h₀} → Quiet Keys Still s t → Quiet Keys Calm s t
-  calm-of-still r = record { keep = r .keep; past = adds-map (λ e x. x .calm) (r .past) }
-
   module _ {H : ℕ → Type 0} (x : ℕ) where
     -- a step that keeps every key and adds still events
     pub mid-still : {R : ℕ → ℕ → List Event → Type 0} {st n c d : ℕ} {s t : State h₀} → Stable R → Quiet Keys Still s t
@@ -118,27 +115,22 @@ module _ {h₀ : List Event} where
           but = but-kept held (m .but);
           used = held .keep x Used its-use ∙ m .used;
           status = new-status;
-          no-hub =
-              byte-other (store s) x f vs x Hub (spot-apart x f (length vs) x Hub (omega arith) (omega arith) (λ _. apart)) ∙ m .no-hub;
+          no-hub = at-hub x ∙ m .no-hub;
           number = new-number;
           addressings = m .addressings;
           configurings = m .configurings;
           origin = origin-map (λ h j. stands-kept held) (λ h j r. r) (m .origin);
-          known =
-              hubs-kept
-              (λ q _. byte-other (store s) x f vs q Hub (spot-apart x f (length vs) q Hub (omega arith) (omega arith) (λ _. apart)))
-              (w .first) (m .known);
+          known = hubs-kept (λ q _. at-hub q) (w .first) (m .known);
           first = omega (arith, m .first, w .first);
         }
       where
         keep : (q g : ℕ) → Held (Only x) q g → byteAt (withBytes (store s) x f vs) q g ≡ byteAt (store s) q g
-        keep q g (other n k) =
-            byte-other (store s) x f vs q g (spot-apart x f (length vs) q g (omega arith) (key-low k) (λ e. absurd (n (sym e))))
-        keep q g its-use =
-            byte-other (store s) x f vs q Used (spot-apart x f (length vs) q Used (omega arith) (omega arith) (λ _. inr past))
-        keep q g (its-child j l) =
-            byte-other (store s) x f vs q (Child j)
-            (spot-apart x f (length vs) q (Child j) (omega arith) (omega arith) (λ _. inl (omega arith)))
+        keep q g (other n k) = byte-beside (store s) x f vs q g (omega arith) (key-low k) (λ e. absurd (n e))
+        keep q g its-use = byte-beside (store s) x f vs q Used (omega arith) (omega arith) (λ _. inr past)
+        keep q g (its-child j l) = byte-beside (store s) x f vs q (Child j) (omega arith) (omega arith) (λ _. inl (omega arith))
+
+        at-hub : (q : ℕ) → byteAt (withBytes (store s) x f vs) q Hub ≡ byteAt (store s) q Hub
+        at-hub q = byte-beside (store s) x f vs q Hub (omega arith) (omega arith) (λ _. apart)
 
         held : Quiet (Held (Only x)) (Aside (Only x)) s (stored s (withBytes (store s) x f vs) w)
         held = record { keep = keep; past = none }

@@ -10,6 +10,7 @@ use borrow.Author.Tests.{ltb-false, le-ltb}
 use lib.Dec.{ltb}
 use lib.ListN.{length, getD, drop, length-append, length-drop}
 use lib.Seq.{take-append-le, drop-append-le}
+use Rattle.usb_types.specs.Numbers.{numberIn}
 use Rattle.usb_types.specs.Outcomes.{listed}
 use Rattle.usb_types.specs.Actions.{requestAction, waitAction, frameIntervalAction}
 use Rattle.usb_types.specs.declared.types.ErrorCode.{ErrorCode}
@@ -20,7 +21,7 @@ use Rattle.usb_types.specs.declared.request.UsbDeviceRequest.{UsbDeviceRequest}
 use Rattle.usb_types.specs.declared.pipe.UsbPipeAddress.{UsbPipeAddress}
 use Rattle.usb_store.proofs.Writes.{length-write}
 use Rattle.usb_model.specs.Programs.{if_then_else_, Ran, done, fail, halt, on, _>>=_, _>>_, return, skip, throw, stop, look, change, succeed, caught, attempt, ignore, when, each, endOf}
-use Rattle.usb_model.specs.World.{World, M, get, getBytes, getNumber, put, putBytes, putNumber, appended, counted, logAction, logRequest, microDelay, dwcUpdateHostFrameInterval}
+use Rattle.usb_model.specs.World.{World, M, get, getBytes, getNumber, putBytes, appended, counted, logAction, logRequest, microDelay, dwcUpdateHostFrameInterval}
 use Rattle.usb_model.specs.Transfer.{Outcome, taken, sizeOf, outcomeOf, takeOutcome}
 use Rattle.usb_model.specs.Kept.{requestsIn, Onward}
 use Rattle.usb_model.proofs.Ways.{Logged}
@@ -174,14 +175,6 @@ module _ {more : List ℕ} where
   unfolding putBytes change
   puts-bytes p f vs = record { grows = λ w. still; repeats = λ w. same }
 
-  pub puts : (p f v : ℕ) → Extends more (put p f v)
-  unfolding put change
-  puts p f v = record { grows = λ w. still; repeats = λ w. same }
-
-  pub puts-number : (p f n v : ℕ) → Extends more (putNumber p f n v)
-  unfolding putNumber change
-  puts-number p f n v = record { grows = λ w. still; repeats = λ w. same }
-
   -- ---- the log
 
   -- the test for room, and k after it
@@ -259,7 +252,7 @@ module _ {more : List ℕ} (asked : ℕ) (w : World) {r : Ran World Outcome} (g 
   repeats-header : (a b c d : ℕ) (t : List ℕ) (garbled cut : Bool) → isCut (a ∷ b ∷ c ∷ d ∷ t) ≡ cut
       → r ≡ taking asked (a ∷ b ∷ c ∷ d ∷ (t ++ more)) false garbled (isCut (a ∷ b ∷ c ∷ d ∷ (t ++ more))) (extended more w)
       → Repeats more (taking asked (a ∷ b ∷ c ∷ d ∷ t) false garbled cut w) r
-  unfolding _>>_ when stop skip change return
+  unfolding _>>_ when stop skip change return numberIn
   repeats-header a b c d t true cut e h = rw h same
   repeats-header a b c d t false true e h = spent g
   repeats-header a b c d t false false e h =
@@ -309,9 +302,7 @@ pub ruleset Steps = (
   gets,
   gets-bytes,
   gets-number,
-  puts,
   puts-bytes,
-  puts-number,
   waits,
   frames,
   requests,

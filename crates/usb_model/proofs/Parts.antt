@@ -21,7 +21,7 @@ use Rattle.usb_model.proofs.Functions.{packet-small, codes, small}
 use Rattle.usb_model.proofs.Reading.{TwoBytes}
 use Rattle.usb_model.proofs.Triples.{State, leads-map, Gives, Keeps, Preorder, k-bind, k-next, k-return, k-skip, k-look, k-get, k-number, k-if, k-when, k-ignore, k-each}
 use Rattle.usb_model.proofs.Events.{Added, wait-adds, frame-adds}
-use Rattle.usb_model.proofs.Quiet.{eighth, fortieth, Keys, keys-clear, Clear, Quiet, quiet-order, adds-one, put-quiet}
+use Rattle.usb_model.proofs.Quiet.{eighth, fortieth, Keys, keys-clear, Clear, Quiet, quiet-order, adds-one, adds-map, put-quiet}
 use Rattle.usb_model.proofs.Messages.{clear-none, Sendable, control-quiet, read-quiet}
 
 -- ---- kinds of events
@@ -126,10 +126,15 @@ module _ {h₀ : List Event} where
   abbrev order : Preorder Stilly
   order = quiet-order Keys Still
 
+  pub calm-of-still : {s t : State h₀} → Quiet Keys Still s t → Quiet Keys Calm s t
+  calm-of-still r = record { keep = r .keep; past = adds-map (λ e x. x .calm) (r .past) }
+
+  pub added-step : {K : ℕ → ℕ → Type 0} {E : Event → Type 0} {P : State h₀ → Type 0} {t : State h₀} {e : Event} → E e → (a : Added P e t)
+      → Quiet K E (a .before) t
+  added-step x a = record { keep = λ q g k. ap (λ (l : List ℕ). byteAt l q g) (a .same); past = adds-one x (a .past) }
+
   added-quiet : {K : ℕ → ℕ → Type 0} {E : Event → Type 0} {s t : State h₀} {e : Event} → E e → Added (λ u. u ≡ s) e t → Quiet K E s t
-  added-quiet {K} {E} {s} {t} x a =
-      subst (λ (u : State h₀). Quiet K E u t) (a .pre)
-      (record { keep = λ q g k. ap (λ (l : List ℕ). byteAt l q g) (a .same); past = adds-one x (a .past) })
+  added-quiet {K} {E} {s} {t} x a = subst (λ (u : State h₀). Quiet K E u t) (a .pre) (added-step x a)
 
   pub waits-still : (us : ℕ) → us < 256 ^ 4 → Keeps Stilly (microDelay us)
   waits-still us h = record {

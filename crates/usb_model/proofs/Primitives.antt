@@ -1,7 +1,6 @@
 -- The steps that the functions of the driver are made of walk. Assumes nothing.
 use mathlib.Core.Path.{_≡_, refl}
 use mathlib.Core.Bool.{Bool, true, false, cond}
-use mathlib.Core.Logic.{inl}
 use mathlib.Core.List.{List, [], _∷_}
 use Prim.Native.Nat.{ℕ, _+_, _-_, _≤_, _<_, min}
 use native.Mathlib.Omega.{arith}
@@ -24,7 +23,7 @@ use Rattle.usb_model.specs.Transfer.{Outcome, taken, outcomesLeft, sizeO
 use Rattle.usb_model.specs.Kept.{Bytes, requestsIn, Good, Onward}
 use Rattle.usb_model.proofs.Bytes.{bytes-one, bytes-cons, bytes-append, zeros, bytes-le, bytes-take, bytes-drop, bytes-write, bytes-at, byte-at}
 use Rattle.usb_model.proofs.Onward.{onward-same}
-use Rattle.usb_model.proofs.Stores.{Plain, plain-less, none-follows, plain-follows, most-follows, child-follows, store-onward, store-good, Follows}
+use Rattle.usb_model.proofs.Stores.{Plain, plain-low, plain-less, none-follows, plain-follows, most-follows, child-follows, store-onward, store-good, Follows}
 use Rattle.usb_model.proofs.Keeps.{Any, Left, is-done, is-halted, bind, next, gives, throws, looks, changes, succeeds, whens}
 use Rattle.usb_model.proofs.Ways.{Logged, Logs, full, logged, log-ends, request-ends, Takes, missing, whole, take-ends}
 use Rattle.usb_model.proofs.Walks.{Reach, Walks, Goes, reach-on}
@@ -60,21 +59,17 @@ module _ {u : World} {n : ℕ} where
   puts-bytes p f k vs r l b = changes _ (λ w x. written _ x (plain-follows (x .good) p f vs (plain-less l r) b))
 
   pub puts : (p f v : ℕ) → Plain f 1 → v < 256 → Goes u n (put p f v)
-  unfolding put
-  puts p f v r l = changes _ (λ w x. written _ x (plain-follows (x .good) p f (v ∷ []) r (bytes-one l)))
+  puts p f v r l = puts-bytes p f 1 (v ∷ []) r (omega arith) (bytes-one l)
 
   pub puts-number : (p f k v : ℕ) → Plain f k → Goes u n (putNumber p f k v)
-  unfolding putNumber
-  puts-number p f k v r =
-      changes _
-      (λ w x. written _ x (plain-follows (x .good) p f (littleEndian k v) (plain-less (omega (arith, length-le k v)) r) (bytes-le k v)))
+  puts-number p f k v r = puts-bytes p f k (littleEndian k v) r (omega (arith, length-le k v)) (bytes-le k v)
 
   pub puts-most : (p v : ℕ) → p < n → v ≤ 10 → Goes u n (put p MaxChildren v)
-  unfolding put
+  unfolding putBytes
   puts-most p v h l = changes _ (λ w x. written _ x (most-follows (x .good) p v (omega (arith, x .used, first-most (w .store))) l))
 
   pub puts-child : (p j c : ℕ) → j < 10 → p + 1 < c → c ≤ n → Goes u n (put p (Child j) c)
-  unfolding put
+  unfolding putBytes
   puts-child p j c h above low =
       changes _
       (λ w x. written _ x (child-follows (x .good) p j c (omega (arith, x .used, first-most (w .store))) h above (omega (arith, x .used))))
@@ -126,16 +121,20 @@ module _ {u : World} {n : ℕ} (action : List ℕ) (long : length action ≡ 16)
   pub sends : requestsIn 1 action ≡ 1 → Goes u n (logRequest action)
   sends one = record { run = λ w x. log-left _ (omega (arith, one)) x (request-ends action w) }
 
+pub wait-bytes : (microseconds : ℕ) → Bytes (waitAction microseconds)
+wait-bytes microseconds = bytes-append (bytes-cons (omega arith) (zeros 7)) (bytes-append (bytes-le 4 microseconds) (zeros 4))
+
+pub frame-bytes : Bytes frameIntervalAction
+frame-bytes = bytes-cons (omega arith) (zeros 15)
+
 module _ {u : World} {n : ℕ} where
   pub waits : (microseconds : ℕ) → Goes u n (microDelay microseconds)
   unfolding microDelay requestsIn
-  waits microseconds =
-      logs (waitAction microseconds) (wait-length microseconds)
-      (bytes-append (bytes-cons (omega arith) (zeros 7)) (bytes-append (bytes-le 4 microseconds) (zeros 4))) refl
+  waits microseconds = logs (waitAction microseconds) (wait-length microseconds) (wait-bytes microseconds) refl
 
   pub frames : Goes u n dwcUpdateHostFrameInterval
   unfolding dwcUpdateHostFrameInterval requestsIn
-  frames = logs frameIntervalAction frame-length (bytes-cons (omega arith) (zeros 15)) refl
+  frames = logs frameIntervalAction frame-length frame-bytes refl
 
 -- ---- a control message
 
@@ -231,9 +230,9 @@ module _ {u : World} {n : ℕ} (p : ℕ) (q : UsbDeviceRequest) (b : Buffer) (c 
       let pipe : UsbPipeAddress = record { device = address; speed = speed; «max_size» = packetSize size } in
       next (sends (requestAction pipe q) (request-length pipe q) (request-bytes pipe q h s (packet-low size) c) refl) (
       bind (takes _) λ o d.
-      next (puts-number p Error 4 _ (record { past = omega arith; room = omega arith; apart = inl (omega arith) })) (
+      next (puts-number p Error 4 _ (plain-low (omega arith) (omega arith))) (
       next (delivers p b (o .delivered) fits d) (
-      next (puts-number p LastTransfer 4 _ (record { past = omega arith; room = omega arith; apart = inl (omega arith) })) (
+      next (puts-number p LastTransfer 4 _ (plain-low (omega arith) (omega arith))) (
       next (succeeds _) (gives _ d)))))
 
   pub controls : Walks u n (control p q b) Bytes

@@ -4,11 +4,11 @@ use mathlib.Core.Logic.{_⊎_, inl, inr, ⊎-elim}
 use mathlib.Core.List.{List, [], _∷_}
 use Prim.Native.Nat.{ℕ, _+_, _*_, _≤_, _<_}
 use native.Mathlib.Omega.{arith}
-use native.Mathlib.Decide.{decLt}
 use lib.ListN.{length}
 use Rattle.usb_store.specs.Layout.{Used, Number, Status, Hub, ConfigurationValue, Child}
-use Rattle.usb_store.specs.Access.{byteAt, withBytes, withByte}
+use Rattle.usb_store.specs.Access.{byteAt, withBytes}
 use Rattle.usb_store.proofs.Fields.{Apart, byte-other}
+use Rattle.usb_store.proofs.Cells.{spot-apart}
 use Rattle.usb_model.specs.World.{put, putBytes}
 use Rattle.usb_model.specs.Kept.{Bytes}
 use Rattle.usb_model.specs.History.{Event}
@@ -81,15 +81,6 @@ gap-room (eighth a b) = omega arith
 gap-room (fortieth a b) = omega arith
 gap-room (last a b) = b
 
--- bytes of one place, and a byte of the same place that they leave out or of another place
-pub spot-apart : (p f n q g : ℕ) → f + n ≤ 1152 → g < 1152 → (p ≡ q → (f + n ≤ g) ⊎ (g < f)) → Apart p f n q g 1
-spot-apart p f n q g r l h = go (decLt p q) (decLt q p)
-  where
-    go : Dec (p < q) → Dec (q < p) → Apart p f n q g 1
-    go (yes a) b = inl (omega arith)
-    go (no a) (yes b) = inr (omega arith)
-    go (no a) (no b) = let e : p ≡ q = omega arith in ⊎-elim (λ x. inl (omega arith)) (λ x. inr (omega arith)) (h e)
-
 -- none of the bytes K is among the n from field f of place p on
 pub record Clear (K : ℕ → ℕ → Type 0) (p f n : ℕ) : Type 0 where
   pub apart : (q g : ℕ) → K q g → Apart p f n q g 1
@@ -146,6 +137,4 @@ module _ {h₀ : List Event} (K : ℕ → ℕ → Type 0) (E : Event → Type 0)
       let x = plain-follows (s .good) p f vs (plain-less l r) b in (x, write-quiet s p f vs n x c l))
 
   pub put-quiet : (p f v : ℕ) → Clear K p f 1 → Plain f 1 → v < 256 → Keeps Quiet (put p f v)
-  unfolding put
-  put-quiet p f v c r l = k-store quiet-order (λ t. withByte t p f v) (λ s.
-      let x = plain-follows (s .good) p f (v ∷ []) r (bytes-one l) in (x, write-quiet s p f (v ∷ []) 1 x c (omega arith)))
+  put-quiet p f v c r l = bytes-quiet p f 1 (v ∷ []) c r (omega arith) (bytes-one l)

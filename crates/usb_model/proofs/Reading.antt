@@ -6,31 +6,16 @@ use native.Mathlib.Nat.{zero-add, suc-add}
 use native.Mathlib.Omega.{arith}
 use lib.ListN.{length, take, drop}
 use lib.Seq.{take-take, take-nil, drop-drop}
+use Rattle.usb_types.specs.Numbers.{numberIn}
 use Rattle.usb_types.specs.Actions.{requestAction, waitAction, frameIntervalAction}
 use Rattle.usb_types.specs.declared.request.UsbDeviceRequest.{UsbDeviceRequest}
 use Rattle.usb_types.specs.declared.pipe.UsbPipeAddress.{UsbPipeAddress}
 use Rattle.usb_types.proofs.LittleEndian.{from-le}
 use Rattle.usb_store.specs.Access.{write}
+use Rattle.usb_store.proofs.Writes.{take-write, at-write}
 use Rattle.usb_model.specs.World.{World}
 use Rattle.usb_model.specs.Transfer.{sizeOf, outcomeOf}
 use Rattle.usb_model.specs.History.{Event, asked, waited, framed, requestOf, Reading, reading, readAction, readLog}
-
--- ---- a write, and what stands before it and at it
-
-take-write : (s : List ℕ) (i : ℕ) (vs : List ℕ) → take i (write s i vs) ≡ take i s
-take-write [] i vs = refl
-take-write (x ∷ s) (suc i) vs = ap (λ (l : List ℕ). x ∷ l) (take-write s i vs)
-take-write (x ∷ s) zero vs = refl
-
-front : (s vs : List ℕ) → length vs ≤ length s → take (length vs) (write s zero vs) ≡ vs
-front s [] h = refl
-front [] (v ∷ vs) h = absurd (omega arith)
-front (x ∷ s) (v ∷ vs) h = ap (λ (l : List ℕ). v ∷ l) (front s vs (omega arith))
-
-at-write : (s : List ℕ) (i : ℕ) (vs : List ℕ) → i + length vs ≤ length s → take (length vs) (drop i (write s i vs)) ≡ vs
-at-write s zero vs h = front s vs (omega arith)
-at-write [] (suc i) vs h = absurd (omega arith)
-at-write (x ∷ s) (suc i) vs h = at-write s i vs (omega arith)
 
 -- what is taken after a drop
 drop-take : (n m : ℕ) (l : List ℕ) → drop n (take (n + m) l) ≡ take m (drop n l)
@@ -107,7 +92,7 @@ reads-more {h₀} {h} {h′} {w} action taken requests r long room e = record {
 -- ---- the three kinds of action
 
 pub reads-wait : (us : ℕ) (r : Reading) → us < 256 ^ 4 → readAction (waitAction us) r ≡ reading (waited us ∷ r .past) (r .rest)
-unfolding readAction
+unfolding readAction numberIn
 reads-wait us r h = ap (λ (k : ℕ). reading (waited k ∷ r .past) (r .rest)) (from-le 4 us h)
 
 pub reads-frame : (r : Reading) → readAction frameIntervalAction r ≡ reading (framed ∷ r .past) (r .rest)
@@ -121,7 +106,7 @@ pub record TwoBytes (q : UsbDeviceRequest) : Type 0 where
   pub length : q .length < 256 ^ 2
 
 request-of : (pipe : UsbPipeAddress) (q : UsbDeviceRequest) → TwoBytes q → requestOf (drop 8 (requestAction pipe q)) ≡ q
-unfolding requestOf
+unfolding requestOf numberIn
 request-of pipe q t = rw (from-le 2 (q .value) (t .value), from-le 2 (q .index) (t .index), from-le 2 (q .length) (t .length)) refl
 
 pub reads-request : (pipe : UsbPipeAddress) (q : UsbDeviceRequest) (r : Reading) → TwoBytes q

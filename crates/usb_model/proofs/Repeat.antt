@@ -2,16 +2,16 @@
 use mathlib.Core.Path.{_≡_, refl, ap}
 use mathlib.Core.Bool.{Bool, false}
 use mathlib.Core.Logic.{_≢_}
-use mathlib.Core.List.{List, [], _∷_}
+use mathlib.Core.List.{List, []}
 use Prim.Native.Nat.{ℕ, zero, suc, _*_}
 use native.Mathlib.Omega.{arith}
 use lib.IntN.{ℤ}
-use lib.ListN.{length, take}
+use lib.ListN.{length}
 use Rattle.usb_types.specs.Answers.{haltNumber}
 use Rattle.usb_types.specs.declared.types.Halt.the-variants.{OutcomesSpent}
 use Rattle.usb_types.specs.declared.request.UsbDeviceRequest.{UsbDeviceRequest}
 use Rattle.usb_store.specs.Access.{write}
-use Rattle.usb_store.proofs.Writes.{length-write}
+use Rattle.usb_store.proofs.Writes.{take-write, length-write}
 use Rattle.usb_device.specs.Device.{firstUnused}
 use Rattle.usb_model.specs.Programs.{Ran, done, fail, halt, endOf}
 use Rattle.usb_model.specs.World.{World, M}
@@ -152,11 +152,6 @@ module _ {more : List ℕ} where
 
 -- ---- what is left
 
-take-write : (n : ℕ) (s vs : List ℕ) → take n (write s n vs) ≡ take n s
-take-write zero s vs = refl
-take-write (suc n) [] vs = refl
-take-write (suc n) (x ∷ s) vs = ap (λ (l : List ℕ). x ∷ l) (take-write n s vs)
-
 module _ (lent : Lent) where
   -- a call that ends in v, and its repeat, which ends in v′
   goes-on : (v v′ : World) {answer answer′ : ℤ} → Grows (start lent) v → Grows v v′
@@ -181,7 +176,7 @@ module _ (lent : Lent) where
         room =
             omega
             (arith, h .fits (g .fits (omega arith)), p .logged, simp length-write at (ap length (o .log)), simp length-write at (ap length log′));
-        agree = rw log′ (take-write (16 * o .actions) (v .log) (p .news));
+        agree = rw log′ (take-write (v .log) (16 * o .actions) (p .news));
       }
 
   answers : {more : List ℕ} {r r′ : Ran World (Unit {0})} → Grows (start lent) (endOf r) → Repeats more r r′

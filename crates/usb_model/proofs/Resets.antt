@@ -16,21 +16,17 @@ use Rattle.usb_model.specs.Features.{PORT-RESET, C-PORT-RESET, bit}
 use Rattle.usb_model.specs.Transfer.{Outcome, Buffer, into, nowhere, control, read}
 use Rattle.usb_model.specs.Hub.{hubChangePortFeature, clearPortFeature, setPortFeature, hubPortGetStatus, portStatus, awaitReset, hubPortReset2}
 use Rattle.usb_model.specs.World.{getNumber}
-use Rattle.usb_model.specs.History.{Event, asked, waited, acknowledged, resets}
+use Rattle.usb_model.specs.History.{Event, asked, waited, acknowledged}
 use Rattle.usb_model.specs.Demand3.{resetOf, statusOf, clearOf, Awaited, sent, again, EndedWell, well, NoResetSince, just, since}
-use Rattle.usb_model.proofs.Triples.{State, store, Does, does-map, does-pre, does-bind, does-next, does-skip, does-return, does-look, does-if, does-unless, does-ignore, does-keep}
+use Rattle.usb_model.proofs.Triples.{does-post, does-first, State, store, Does, does-map, does-pre, does-bind, does-next, does-skip, does-return, does-look, does-if, does-unless, does-ignore, does-keep}
 use Rattle.usb_model.proofs.Events.{Added, wait-adds}
-use Rattle.usb_model.proofs.Quiet.{number, Keys, quiet-order, adds-one, adds-map}
-use Rattle.usb_model.proofs.Messages.{Sendable, Answered, Acknowledged, control-does}
-use Rattle.usb_model.proofs.Parts.{Calm, still-wait, still-port-status, still-clear, calm-reset, sends-none, port-sendable, head-keys, Calmly, clear-still}
+use Rattle.usb_model.proofs.Quiet.{number, Keys, quiet-order}
+use Rattle.usb_model.proofs.Messages.{answered-step, Sendable, Answered, Acknowledged, control-does}
+use Rattle.usb_model.proofs.Parts.{Calm, calm-of-still, added-step, still-wait, still-port-status, still-clear, calm-reset, sends-none, port-sendable, head-keys, Calmly, clear-still}
 
 status-length : (port : ℕ) → statusOf port .length ≡ 4
 unfolding deviceRequest
 status-length port = refl
-
-still-reset : (us : ℕ) → resets (waited us) ≡ false
-unfolding resets
-still-reset us = refl
 
 module _ {h₀ : List Event} (s₀ : State h₀) (hub port : ℕ) (inside : hub < 32) (low : port < 10) (own : byteAt (store s₀) hub Number ≡ hub + 1) where
   abbrev Since : State h₀ → Type 0
@@ -41,12 +37,11 @@ module _ {h₀ : List Event} (s₀ : State h₀) (hub port : ℕ) (inside : hub 
 
   -- one event more, which is calm
   added : {P : State h₀ → Type 0} {e : Event} {t : State h₀} → ((s : State h₀) → P s → Since s) → Calm e → Added P e t → Since t
-  added f c a =
-      later (f (a .before) (a .pre)) (record { keep = λ q g k. ap (λ (l : List ℕ). byteAt l q g) (a .same); past = adds-one c (a .past) })
+  added f c a = later (f (a .before) (a .pre)) (added-step c a)
 
   answered : {P : State h₀ → Type 0} (q : UsbDeviceRequest) (b : Buffer) {o : Outcome} {t : State h₀} → ((s : State h₀) → P s → Since s)
       → Calm (asked (hub + 1) q o) → Answered Keys hub q b P (hub + 1) o t → Since t
-  answered q b f c a = later (f (a .before) (a .pre)) (record { keep = a .keep; past = adds-one c (a .past) })
+  answered q b f c a = later (f (a .before) (a .pre)) (answered-step Keys hub q b c a)
 
   -- a request to the hub: acknowledged, or failed in a state that came calmly
   tell : {P : State h₀ → Type 0} (q : UsbDeviceRequest) (b : Buffer) → Sendable Keys hub q b → ((s : State h₀) → P s → Since s)
@@ -79,12 +74,12 @@ module _ {h₀ : List Event} (s₀ : State h₀) (hub port : ℕ) (inside : hub 
     holds : numberAt (store t) hub (PortStatus port) 4 ≡ fromLittleEndian (o .delivered)
 
   tick : (reads : ℕ) → Does (Begun reads) (microDelay 50000) (λ _. Ticked reads) Since
-  tick reads = does-map (λ s p. p) (λ _ t a. record {
+  tick reads = does-post (λ _ t a. record {
     since₁ = added (λ s p. p .since₀) (still-wait 50000 .calm) a;
     h = a .before .past;
     past = a .past;
     awaited = a .pre .awaited;
-  }) (λ s n. n) (wait-adds {N = Since} 50000 (omega arith))
+  }) (wait-adds {N = Since} 50000 (omega arith))
 
   see : (reads : ℕ) → Does (Ticked reads) (hubPortGetStatus hub port) (λ _. Seen reads) Since
   unfolding hubPortGetStatus read
@@ -148,10 +143,10 @@ module _ {h₀ : List Event} (s₀ : State h₀) (hub port : ℕ) (inside : hub 
   begin : Does Since (setPortFeature hub PORT-RESET port) (λ _. Begun 0) Since
   unfolding hubChangePortFeature
   begin = does-next
-      (does-map (λ s p. p) (λ _ t a. record {
+      (does-post (λ _ t a. record {
         since₀ = answered (resetOf port) nowhere (λ s p. p) (calm-reset port (hub + 1) (a .outcome)) (a .answered);
         awaited = subst (Awaited (hub + 1) port 0) (sym (a .answered .past)) (sent (a .good));
-      }) (λ s n. n)
+      })
       (tell (resetOf port) nowhere (sends-none head-keys ToPort SetFeature PORT-RESET (port + 1) (omega arith) (omega arith) (omega arith)
       (omega arith) 0 (omega arith)) (λ s p. p) (calm-reset port (hub + 1))))
       does-skip
@@ -163,11 +158,11 @@ module _ {h₀ : List Event} (s₀ : State h₀) (hub port : ℕ) (inside : hub 
   finish : (b : Bool) → Does (Read b) (clearPortFeature hub C-PORT-RESET port) (λ _. Over b) Since
   unfolding hubChangePortFeature
   finish b = does-next
-      (does-map (λ s p. p) (λ _ t a. record {
+      (does-post (λ _ t a. record {
         since₄ =
             answered (clearOf port) nowhere (λ s p. p .since₃) (still-clear C-PORT-RESET port (hub + 1) (a .outcome) .calm) (a .answered);
         over = λ x. ended t a (a .answered .pre .shown x);
-      }) (λ s n. n)
+      })
       (tell (clearOf port) nowhere (sends-none head-keys ToPort ClearFeature C-PORT-RESET (port + 1) (omega arith) (omega arith)
       (omega arith) (omega arith) 0 (omega arith)) (λ s p. p .since₃) (λ o. still-clear C-PORT-RESET port (hub + 1) o .calm)))
       does-skip
@@ -186,17 +181,14 @@ module _ {h₀ : List Event} (s₀ : State h₀) (hub port : ℕ) (inside : hub 
   pub reset2-does : Does (Calmly s₀) (hubPortReset2 hub port) (λ _. HasReset) (Calmly s₀)
   unfolding hubPortReset2
   reset2-does =
-      does-next (does-ignore (does-map (λ s p. p) (λ _ t x. x .0) (λ t x. x)
-      (does-keep Since (clear-still hub C-PORT-RESET port (omega arith) low) (λ s t p r. later p (record {
-        keep = r .keep;
-        past = adds-map (λ e x. x .calm) (r .past);
-      })) (λ t x. x)))) (
+      does-next (does-ignore (does-first
+      (does-keep Since (clear-still hub C-PORT-RESET port (omega arith) low) (λ s t p r. later p (calm-of-still r)) (λ t x. x)))) (
       does-next begin (does-bind (await _ 0 (omega arith)) λ seen.
       does-next (finish seen) (
       does-next (does-unless (not seen) _ (λ t x. x .since₄))
-      (does-map (λ s p. p) (λ _ t a. record {
+      (does-post (λ _ t a. record {
         calmly = added (λ s p. p .0 .since₄) (still-wait 10000 .calm) a;
         reset =
             subst (NoResetSince (EndedWell (hub + 1) port)) (sym (a .past))
-            (since (still-reset 10000) (just (a .pre .0 .over (not-false seen (a .pre .1)))));
-      }) (λ s n. n) (wait-adds {N = Since} 10000 (omega arith))))))
+            (since (still-wait 10000 .reset) (just (a .pre .0 .over (not-false seen (a .pre .1)))));
+      }) (wait-adds {N = Since} 10000 (omega arith))))))

@@ -1,6 +1,6 @@
 -- Attach, hub attach, port check and connection change, which call each other, and scan keep a store sound. Assumes nothing.
 use mathlib.Core.Path.{_≡_, refl, sym, ap, _∙_}
-use mathlib.Core.Bool.{Bool, true, false, cond, not, _&&_, _||_, false≢true, true≢false, and-eq-true-iff}
+use mathlib.Core.Bool.{Bool, true, false, cond, not, _&&_, _||_, false≢true, and-eq-true-iff}
 use mathlib.Core.Logic.{inl, inr, _≢_}
 use mathlib.Core.List.{List}
 use Prim.Native.Nat.{ℕ, zero, suc, _+_, _-_, _≤_, _<_, min}
@@ -20,13 +20,15 @@ use Rattle.usb_model.specs.Transfer.{into}
 use Rattle.usb_model.specs.Usbd.{usbAllocateDevice}
 use Rattle.usb_model.specs.Hub.{hubReadDescriptor, hubPortConnectionChanged, hubCheckConnection, hubCheckConnectionDevice, hubAttach, isOk, scanPort, hubCheckForChange}
 use Rattle.usb_model.specs.Attach.{usbAttachDevice, attachBelow}
+use Rattle.usb_model.proofs.Accepted.{neither}
+use Rattle.usb_model.proofs.Functions.{speed-listed}
 use Rattle.usb_model.proofs.Ways.{Allocates, bus-full, allocated, allocate-ends}
 use Rattle.usb_model.proofs.Functions.{middle}
 use Rattle.usb_model.proofs.Keeps.{Any, Left, is-failed, left-weaker, Safe, Keeps, bind-to, next-to, skips-to, whens-to, unless-to, bind, next, skips, throws, succeeds, attempts, ignores, whens, eachs}
 use Rattle.usb_model.proofs.SoundStores.{Since, At, later, edit-since, edit-sound, hub-edit, parent-edit}
 use Rattle.usb_model.proofs.SoundPlaces.{Fresh, child-sound, child-since, child-fresh, child-stands}
 use Rattle.usb_model.proofs.SoundSteps.{Held, since-join, since-same, held-edit, some-place, gets, gets-own, gets-most, puts, puts-bytes, waits, frames, Fits}
-use Rattle.usb_model.proofs.SoundFunctions.{none, descriptors, read-device-descriptor, puts-own, puts-status, set-address, configures, change-feature, power-on, port-status, port-of-child, get-status, port-get-status, reset2, speed-listed}
+use Rattle.usb_model.proofs.SoundFunctions.{none, descriptors, read-device-descriptor, puts-own, puts-status, set-address, configures, change-feature, power-on, port-status, port-of-child, get-status, port-get-status, reset2}
 
 -- ---- programs that take places: from a store since t with its hub bytes and children, to one since t with more of them
 
@@ -69,7 +71,7 @@ hub-written {w} {p} i u v grows most h =
 module _ {A : Type 0} {Q : A → Type 0} {k : M A} where
   -- a new device becomes a hub
   becomes-hub : {t : List ℕ} {p : ℕ} → Fresh t p → ((u : List ℕ) → At u p 1 → Keeps (Held false u) k Q) → Grows t (put p Hub 1 >> k) Q
-  unfolding put change _>>_
+  unfolding putBytes change _>>_
   becomes-hub {p} f h = record {
     run = λ w i.
         let a = later (i .since) (f .place) in
@@ -79,7 +81,7 @@ module _ {A : Type 0} {Q : A → Type 0} {k : M A} where
   -- a hub has a descriptor from here on
   describes : {s : List ℕ} {p : ℕ} → At s p 1 → ((t : List ℕ) → At t p 2 → Keeps (Held false t) k Q)
       → Keeps (Held false s) (get p Hub >>= (λ d. when (eqb d 1) (put p Hub 2 >> putBytes p HubDescriptor (blank 9)) >> k)) Q
-  unfolding get look _>>=_ _>>_ when put change skip
+  unfolding get look _>>=_ _>>_ when putBytes change skip
   describes {s} {p} u h = record { run = λ w i. go w i (later (i .since) u) (eqb (byteAt (w .store) p Hub) 1) refl }
     where
       go : (w : World) → Held false s w → At (w .store) p 1 → (b : Bool) → eqb (byteAt (w .store) p Hub) 1 ≡ b
@@ -117,7 +119,7 @@ allocates-child : {A : Type 0} {Q : A → Type 0} {k : ℕ → M A} {t : List �
     → byteAt t hub (Child port) ≡ 0
     → ((place : ℕ) (u : List ℕ) → Fresh u place → At u hub 1 → IsChild u hub port place → Grows u (k place) Q)
     → Grows t (usbAllocateDevice >>= (λ place. put hub (Child port) (place + 1) >> k place)) Q
-unfolding put change _>>_
+unfolding putBytes change _>>_
 allocates-child {t} {hub} {port} u l vacant h = allocates grown _ λ w i p e inside.
     let a = later (i .since) u in
     let free = i .since .child-same refl hub port l ∙ vacant in
@@ -130,7 +132,7 @@ allocates-child {t} {hub} {port} u l vacant h = allocates grown _ λ w i p e ins
 parents : {A : Type 0} {Q : A → Type 0} {k : M A} {t : List ℕ} {p hub port : ℕ} → At t p 0 → hub < 32 → port < 10 → IsChild t hub port p
     → Grows t k Q
     → Grows t (put p Parent (hub + 1) >> (put p PortNumber port >> k)) Q
-unfolding put change _>>_
+unfolding putBytes change _>>_
 parents {hub} {port} u inside l child h = record {
   run = λ w i. h .run _ (held-edit i (parent-edit (i .sound) (later (i .since) u) hub port inside l (i .since .child-same refl hub port l ∙ child)));
 }
@@ -139,8 +141,7 @@ parents {hub} {port} u inside l child h = record {
 
 -- what the test of a connection change says of the port's child
 no-child : (gone : Bool) (child : ℕ) → (gone || not (eqb child 0)) ≡ false → child ≡ 0
-no-child true child e = absurd (true≢false e)
-no-child false child e = eqb-true child 0 (not-false _ e)
+no-child gone child e = eqb-true child 0 (not-false _ (neither gone (not (eqb child 0)) e .1))
 
 module _ (attach : ℕ → M (Unit {0})) (attaches : (place : ℕ) (t : List ℕ) → Fresh t place → Grows t (attach place) Any) where
   module _ {s : List ℕ} {hub : ℕ} (u : At s hub 1) where

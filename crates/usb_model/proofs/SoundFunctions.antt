@@ -1,5 +1,5 @@
 -- Every function of the driver that takes no place keeps a store sound. Assumes nothing.
-use mathlib.Core.Bool.{Bool, true, false, cond, not, _&&_, _||_}
+use mathlib.Core.Bool.{Bool, true, false, not, _&&_, _||_}
 use mathlib.Core.Logic.{inl, inr, ⊎-elim}
 use mathlib.Core.List.{List, [], _∷_}
 use Prim.Native.Nat.{ℕ, zero, suc, _+_, _≤_, _<_}
@@ -9,11 +9,11 @@ use lib.Dec.{eqb, ltb}
 use Rattle.usb_store.specs.Layout.{Number, Speed, Status, ConfigurationIndex, PortNumber, Parent, Hub, DeviceDescriptor, MaxPacketSize0, ConfigurationDescriptor, Interfaces, HubStatus, PortStatus, Child}
 use Rattle.usb_place.specs.Rules.{OneOf}
 use Rattle.usb_model.specs.World.{put}
-use Rattle.usb_model.specs.Features.{PORT-ENABLE, PORT-LOW-SPEED, PORT-HIGH-SPEED, C-PORT-RESET, bit}
+use Rattle.usb_model.specs.Features.{PORT-ENABLE, C-PORT-RESET, bit}
 use Rattle.usb_model.specs.Transfer.{Buffer, into, nowhere, usbGetDescriptor}
 use Rattle.usb_model.specs.Walk.{RecordLength}
 use Rattle.usb_model.specs.Usbd.{readDeviceDescriptor, usbReadDeviceDescriptor, usbSetAddress, usbSetConfigure, usbConfigure}
-use Rattle.usb_model.specs.Hub.{hubGetStatus, hubChangePortFeature, hubPowerOn, hubPortGetStatus, portStatus, awaitReset, hubPortReset2, awaitEnabled, resetTries, hubPortReset, portOfChild, hubChildReset, speedOf}
+use Rattle.usb_model.specs.Hub.{hubGetStatus, hubChangePortFeature, hubPowerOn, hubPortGetStatus, portStatus, awaitReset, hubPortReset2, awaitEnabled, resetTries, hubPortReset, portOfChild, hubChildReset}
 use Rattle.usb_model.proofs.Functions.{middle}
 use Rattle.usb_model.proofs.Keeps.{Any, Keeps, bind, next, gives, skips, throws, succeeds, ignores, either, whens, unless-to, eachs}
 use Rattle.usb_model.proofs.SoundStores.{At}
@@ -168,12 +168,3 @@ module _ {b : Bool} {s : List ℕ} {p : ℕ} where
     pub child-reset : (child : ℕ) → Keeps (Held b s) (hubChildReset p child) Any
     unfolding hubChildReset
     child-reset child = bind (port-of-child (some-place u) child) λ port h. reset2 port h
-
-pub speed-listed : (status : ℕ) → speedOf status < 3
-unfolding speedOf
-speed-listed status = go (bit PORT-LOW-SPEED status) (bit PORT-HIGH-SPEED status)
-  where
-    go : (a b : Bool) → cond {A = ℕ} a 2 (cond b 0 1) < 3
-    go true b = omega arith
-    go false true = omega arith
-    go false false = omega arith

@@ -6,17 +6,16 @@ use mathlib.Core.Logic.{inl, _≢_}
 use mathlib.Core.List.{List}
 use Prim.Native.Nat.{ℕ, _<_}
 use native.Mathlib.Omega.{arith}
-use borrow.Author.Tests.{ltb-false}
 use Rattle.usb_store.specs.Layout.{Used, Speed, Hub}
 use Rattle.usb_store.specs.Access.{byteAt}
 use Rattle.usb_sound.specs.Sound.{Sound}
 use Rattle.usb_sound.proofs.Hubs.{hub-used}
-use Rattle.usb_model.specs.Programs.{Ran, done, fail, halt, endOf}
+use Rattle.usb_model.specs.Programs.{endOf}
 use Rattle.usb_model.specs.World.{World, M}
 use Rattle.usb_model.specs.Hub.{hubPortReset, hubChildReset, hubPortConnectionChanged, hubCheckConnection, hubCheckConnectionDevice, hubCheckForChange}
 use Rattle.usb_model.specs.Attach.{attachBelow, usbAttachRootHub}
-use Rattle.usb_model.specs.Entry.{Lent, Verdict, accepted, refused, isUnused, noPort, rootVerdict, hubVerdict, start, answered, call, rootAttach, scan, portCheck, childReset, childCheck, retriedReset, connectionChange}
-use Rattle.usb_model.proofs.Accepted.{root-accepted, hub-accepted}
+use Rattle.usb_model.specs.Entry.{Lent, Verdict, accepted, refused, isUnused, noPort, rootVerdict, hubVerdict, start, call, rootAttach, scan, portCheck, childReset, childCheck, retriedReset, connectionChange}
+use Rattle.usb_model.proofs.Accepted.{port-inside, root-accepted, hub-accepted}
 use Rattle.usb_model.proofs.Keeps.{Any, left-holds, Safe, Keeps, next-to}
 use Rattle.usb_model.proofs.SoundStores.{At}
 use Rattle.usb_model.proofs.SoundPlaces.{root-sound, root-since, root-fresh}
@@ -78,15 +77,10 @@ root-hub-stays w r none speed l = left-holds (root-hub speed l .run w (record { 
 
 -- ---- the entry points
 
-answered-sound : {s : List ℕ} (r : Ran World (Unit {0})) → Held false s (endOf r) → Sound (answered r .new)
-answered-sound (done a w) h = h .sound
-answered-sound (fail e w) h = h .sound
-answered-sound (halt x w) h = h .sound
-
 module _ (lent : Lent) where
   called-sound : (v : Verdict) (m : M (Unit {0})) → v ≡ accepted → Stays m (start lent) → Sound (call lent v m .new)
   unfolding call
-  called-sound accepted m e h = answered-sound (m (start lent)) h
+  called-sound accepted m e h = h .sound
   called-sound (refused r) m e h = let z : _≡_ {A = ℕ} 0 1 = cc in absurd (omega arith)
 
   -- a call that names a hub
@@ -110,17 +104,17 @@ module _ (lent : Lent) where
   pub port-check-sound : (hub port : ℕ) → hubVerdict lent hub (noPort port) ≡ accepted → Sound (portCheck hub port lent .new)
   unfolding portCheck
   port-check-sound hub port e =
-      hub-called hub (noPort port) _ e λ r u g. check-connection-stays (start lent) r u 32 port (omega (arith, ltb-false 9 port g))
+      hub-called hub (noPort port) _ e λ r u g. check-connection-stays (start lent) r u 32 port (port-inside port g)
 
   pub connection-change-sound : (hub port : ℕ) → hubVerdict lent hub (noPort port) ≡ accepted → Sound (connectionChange hub port lent .new)
   unfolding connectionChange
   connection-change-sound hub port e =
-      hub-called hub (noPort port) _ e λ r u g. connection-changed-stays (start lent) r u 32 port (omega (arith, ltb-false 9 port g))
+      hub-called hub (noPort port) _ e λ r u g. connection-changed-stays (start lent) r u 32 port (port-inside port g)
 
   pub retried-reset-sound : (hub port : ℕ) → hubVerdict lent hub (noPort port) ≡ accepted → Sound (retriedReset hub port lent .new)
   unfolding retriedReset
   retried-reset-sound hub port e =
-      hub-called hub (noPort port) _ e λ r u g. reset-stays (start lent) r u port (omega (arith, ltb-false 9 port g))
+      hub-called hub (noPort port) _ e λ r u g. reset-stays (start lent) r u port (port-inside port g)
 
   pub child-check-sound : (hub child : ℕ) → hubVerdict lent hub (isUnused lent child) ≡ accepted → Sound (childCheck hub child lent .new)
   unfolding childCheck

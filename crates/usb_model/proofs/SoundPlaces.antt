@@ -6,47 +6,27 @@ use mathlib.Core.List.{List, [], _∷_}
 use Prim.Native.Nat.{ℕ, _+_, _-_, _≤_, _<_}
 use native.Mathlib.Omega.{arith}
 use native.Mathlib.Decide.{ℕ-discrete, decLt}
-use lib.ListN.{length, getD, take, drop, replicate, getD-replicate}
-use lib.Seq.{getD-take, getD-drop}
+use lib.ListN.{length, getD}
 use Rattle.usb_store.specs.Layout.{Used, PortNumber, Parent, Hub, Error, Child}
 use Rattle.usb_store.specs.Access.{Within, byteAt, numberAt, withBytes, withByte}
 use Rattle.usb_store.proofs.Fields.{with-length, byte-same}
+use Rattle.usb_store.proofs.Cells.{byte-else}
 use Rattle.usb_device.specs.Device.{newDevice, firstUnused}
-use Rattle.usb_device.proofs.Free.{first-before, first-unused, new-byte}
-use Rattle.usb_device.proofs.NewDevice.{length-new}
+use Rattle.usb_device.proofs.Free.{first-unused, new-byte, new-elsewhere}
+use Rattle.usb_device.proofs.NewDevice.{new-bytes, new-error, new-zero}
 use Rattle.usb_place.specs.Rules.{OneOf, errors}
 use Rattle.usb_sound.specs.Sound.{IsUsed, IsChild, ChildOnce, Sound}
-use Rattle.usb_model.proofs.SoundStores.{other-place, Rule, Cells, hub-grows, edited, error-same, one-other, Since, At, is-used}
+use Rattle.usb_sound.proofs.Hubs.{before-used}
+use Rattle.usb_model.proofs.SoundStores.{Rule, Cells, hub-grows, edited, error-same, Since, At, is-used}
 
 -- ---- a new device
 
-zero-run : (l : List ℕ) (a n : ℕ) → take n (drop a l) ≡ replicate n 0 → (g : ℕ) → a ≤ g → g < a + n → getD l g 0 ≡ 0
-zero-run l a n e g x y =
-    let i : g ≡ a + (g - a) = omega arith in
-    ap (λ (k : ℕ). getD l k 0) i ∙ sym (getD-drop a l (g - a) 0) ∙ sym (getD-take n (drop a l) (g - a) 0 (omega arith))
-    ∙ ap (λ (m : List ℕ). getD m (g - a) 0) e ∙ getD-replicate n (g - a) 0 0 (omega arith)
-
-new-first : (p : ℕ)
-    → (getD (newDevice p) 0 0 ≡ 1) × (getD (newDevice p) 1 0 ≡ p + 1) × (getD (newDevice p) 2 0 ≡ 1) × (getD (newDevice p) 3 0 ≡ 0)
-    × (getD (newDevice p) 6 0 ≡ 0) × (getD (newDevice p) 7 0 ≡ 0)
-unfolding newDevice
-new-first p = (refl, refl, refl, refl, refl, refl)
-
-new-error : (p i : ℕ) → i < 4 → getD (newDevice p) (8 + i) 0 ≡ 0
-unfolding newDevice
-new-error p i l = zero-run (newDevice p) 8 4 refl (8 + i) (omega arith) (omega arith)
-
--- no hub data, and the bytes that are not used
-new-zero : (p g : ℕ) → g < 1152 → ((43 ≤ g) × (g < 128)) ⊎ (1096 ≤ g) → getD (newDevice p) g 0 ≡ 0
-unfolding newDevice
-new-zero p g l = ⊎-elim (λ h. zero-run (newDevice p) 43 85 refl g (h .0) (h .1)) (λ h. zero-run (newDevice p) 1096 56 refl g h l)
-
 new-rule : (p g : ℕ) → (43 ≤ g → 128 ≤ g) → g < 1096 → Rule 0 p g (getD (newDevice p) g 0)
 new-rule p g a b = record {
-  number = λ e _. is e ∙ new-first p .1;
-  speed = λ e. omega (arith, is e, new-first p .2);
-  status = λ e. omega (arith, is e, new-first p .3);
-  hub = λ e. omega (arith, is e, new-first p .5);
+  number = λ e _. is e ∙ new-bytes p .number;
+  speed = λ e. omega (arith, is e, new-bytes p .speed);
+  status = λ e. omega (arith, is e, new-bytes p .status);
+  hub = λ e. omega (arith, is e, new-bytes p .hub);
   data′ = λ c d. absurd (omega (arith, a c));
   descriptor = λ c d. absurd (omega (arith, a c));
   most = λ e. absurd (omega (arith, a (omega arith)));
@@ -126,7 +106,7 @@ module _ {N : ℕ → ℕ → Type 0} {s t : List ℕ} (r : Sound s) {p : ℕ} (
   still-used q u = (u .0, plain q Used (not-here q u) (omega arith) ∙ u .1)
 
   here-used : IsUsed t p
-  here-used = (inside, k .new Used (omega arith) ∙ new-first p .0)
+  here-used = (inside, k .new Used (omega arith) ∙ new-bytes p .used)
 
   -- a child of t was one, or is the place taken
   was-child : (h i c : ℕ) → i < 10 → IsChild t h i c → (IsChild s h i c) ⊎ (N h i × (c ≡ p))
@@ -175,19 +155,19 @@ module _ {N : ℕ → ℕ → Type 0} {s t : List ℕ} (r : Sound s) {p : ℕ} (
   taken-fresh : Fresh t p
   taken-fresh = record {
     place = record { inside = inside; used = omega (arith, here-used .1); hub = omega arith };
-    hub = k .new Hub (omega arith) ∙ new-first p .5;
+    hub = k .new Hub (omega arith) ∙ new-bytes p .hub;
   }
 
   -- so it is sound, if the places before it are used, and it is the first or stands as a child
   taken-sound : ((q : ℕ) → q < p → IsUsed s q) → ((h i : ℕ) → N h i → p ≢ 0) → (p ≢ 0 → ChildOnce t p) → Sound t
   taken-sound before below stands = edited r taken-cells errors-same (record {
-    used = λ q l. by-place q Used (omega arith) (λ b. OneOf b (0 ∷ 1 ∷ [])) (λ _. inr (inl (new-first p .0))) (r .used q l);
+    used = λ q l. by-place q Used (omega arith) (λ b. OneOf b (0 ∷ 1 ∷ [])) (λ _. inr (inl (new-bytes p .used))) (r .used q l);
     unused = λ q l e g m. unused q l (λ a. omega (arith, e, here-used .1, ap (λ (i : ℕ). byteAt t i Used) a)) e g m;
     children = λ h i c a l e. ⊎-elim (λ x. still-used c (r .children h i c a l x)) (λ x. subst (IsUsed t) (sym (x .1)) here-used) (was-child h i c l e);
     root = λ h i a l e. ⊎-elim (r .root h i a l) (λ x. below h i (x .0) (sym (x .1))) (was-child h i 0 l e);
     child = λ q l u. child q l u (ℕ-discrete q p);
     packed = λ a b l u. still-used a (packed a b l u (ℕ-discrete b p));
-    root-parent = by-place 0 Parent (omega arith) (λ b. b ≡ 0) (λ _. new-first p .4) (r .root-parent);
+    root-parent = by-place 0 Parent (omega arith) (λ b. b ≡ 0) (λ _. new-bytes p .parent) (r .root-parent);
   })
     where
       unused : (q : ℕ) → q < 32 → q ≢ p → byteAt t q Used ≡ 0 → (g : ℕ) → g < 1152 → byteAt t q g ≡ 0
@@ -210,15 +190,10 @@ module _ {s : List ℕ} (r : Sound s) {p : ℕ} (first : p ≡ firstUnused s) (i
   free = ap (λ (k : ℕ). byteAt s k Used) first ∙ first-unused s (omega (arith, first))
 
   before : (q : ℕ) → q < p → IsUsed s q
-  before q l =
-      is-used {k = 0} r (record { inside = omega arith; used = omega (arith, first-before s q (omega (arith, first))); hub = omega arith })
+  before q l = before-used s r q (omega (arith, first))
 
   abbrev pub with-new : List ℕ
   with-new = withBytes s p 0 (newDevice p)
-
-  new-other : (q g : ℕ) → q ≢ p → g < 1152 → byteAt with-new q g ≡ byteAt s q g
-  new-other q g n l =
-      other-place s p 0 (newDevice p) (record { whole = r .whole; inside = inside; room = omega (arith, length-new p) }) q g l n
 
   -- the root hub, where no place is used
   module _ (empty : byteAt s 0 Used ≡ 0) where
@@ -233,8 +208,8 @@ module _ {s : List ℕ} (r : Sound s) {p : ℕ} (first : p ≡ firstUnused s) (i
     root-taken = record {
       size = with-length s p 0 (newDevice p);
       new = λ g l. new-byte s p g (r .whole) inside l;
-      other = λ q g n l _. new-other q g n l;
-      child = λ q i n l. inl (new-other q (Child i) n (omega arith));
+      other = λ q g n l _. new-elsewhere s p q g l n;
+      child = λ q i n l. inl (new-elsewhere s p q (Child i) (omega arith) n);
     }
 
     pub root-sound : Sound with-new
@@ -266,12 +241,12 @@ module _ {s : List ℕ} (r : Sound s) {p : ℕ} (first : p ≡ firstUnused s) (i
     child-stands = byte-same with-new h (Child j) (p + 1) child-within
 
     as-before : (q g : ℕ) → q ≢ p → g < 1152 → (q ≡ h → g ≡ Child j → ⊥) → byteAt with-child q g ≡ byteAt s q g
-    as-before q g n l m = one-other child-within (p + 1) q g l m ∙ new-other q g n l
+    as-before q g n l m = byte-else with-new h (Child j) (p + 1) q g (omega arith) l m ∙ new-elsewhere s p q g l n
 
     child-taken : Taken (λ q i. (q ≡ h) × (i ≡ j)) s with-child p
     child-taken = record {
       size = with-length with-new h (Child j) ((p + 1) ∷ []) ∙ with-length s p 0 (newDevice p);
-      new = λ g l. one-other child-within (p + 1) p g l (λ a e. omega (arith, below)) ∙ new-byte s p g (r .whole) inside l;
+      new = λ g l. byte-else with-new h (Child j) (p + 1) p g (omega arith) l (λ a e. omega (arith, below)) ∙ new-byte s p g (r .whole) inside l;
       other = λ q g n l c. as-before q g n l (λ a e. omega (arith, c (omega arith)));
       child = λ q i n l. ports q i n l (ℕ-discrete q h) (ℕ-discrete i j);
     }
@@ -300,5 +275,5 @@ module _ {s : List ℕ} (r : Sound s) {p : ℕ} (first : p ≡ firstUnused s) (i
       stands = child-stands;
       once = λ q i a l e. ⊎-elim (λ c. absurd (not-here r inside free child-taken p (r .children q i p a l c) refl)) (λ x. x .0)
           (was-child r inside free child-taken q i p l e);
-      parent = inl (child-taken .new Parent (omega arith) ∙ new-first p .4);
+      parent = inl (child-taken .new Parent (omega arith) ∙ new-bytes p .parent);
     })

@@ -69,7 +69,7 @@ module _ {b : Bool} {s : List ℕ} where
 
   pub puts : {p k : ℕ} → At s p k → (f v : ℕ) → ((h : ℕ) → k ≤ h → May b h p f v) → (f + 1 ≤ 8) ⊎ (12 ≤ f)
       → Keeps (Held b s) (put p f v) Any
-  unfolding put
+  unfolding putBytes
   puts u f v may clear =
       changes _ (λ w h. let a = later (h .since) u in held-edit h (byte-edit (h .sound) (some-place a) f v (may _ (a .hub)) clear))
 
@@ -82,11 +82,11 @@ module _ {b : Bool} {s : List ℕ} where
       (λ w h. let a = later (h .since) u in held-edit h (plain-edit (h .sound) (some-place a) f vs room (λ i l. may _ i (a .hub) l) clear))
 
   puts-error : {p k : ℕ} → At s p k → (v : ℕ) → OneOf v errors → v < 256 ^ 4 → Keeps (Held b s) (putNumber p 8 4 v) Any
-  unfolding putNumber
+  unfolding putBytes
   puts-error u v listed l = changes _ (λ w h. held-edit h (error-edit (h .sound) (some-place (later (h .since) u)) v listed l))
 
   puts-last : {p k : ℕ} → At s p k → (v : ℕ) → Keeps (Held b s) (putNumber p LastTransfer 4 v) Any
-  unfolding putNumber
+  unfolding putBytes
   puts-last u v =
       changes _
       (λ w h. held-edit h (plain-edit (h .sound) (some-place (later (h .since) u)) LastTransfer _ (omega arith) (λ i l. omega arith) (inr (omega arith))))

@@ -11,43 +11,13 @@ use lib.ListN.{length, getD}
 use Rattle.usb_types.specs.Numbers.{littleEndian}
 use Rattle.usb_store.specs.Layout.{Used, Number, Speed, Status, PortNumber, Parent, Hub, Error, Child, MaxChildren}
 use Rattle.usb_store.specs.Access.{Within, byteAt, numberAt, withBytes, withByte, withNumber}
-use Rattle.usb_store.proofs.Fields.{places-apart, fields-apart, with-length, byte-other, byte-same, bytes-same, byte-of-bytes, number-4, number-same, number-other}
+use Rattle.usb_store.proofs.Fields.{places-apart, fields-apart, with-length, byte-same, number-4, number-same, number-other}
+use Rattle.usb_store.proofs.Cells.{other-place, byte-else, Cell, kept, written, cell}
 use Rattle.usb_place.specs.Rules.{OneOf, speeds, statuses, errors, hubs}
 use Rattle.usb_place.specs.Test.{oneOf, every}
 use Rattle.usb_place.proofs.Tests.{one-decides, every-decides}
 use Rattle.usb_sound.specs.Sound.{IsUsed, IsChild, ParentFits, ChildOnce, Sound}
-
--- ---- a byte of a store in which a field was written: as it was, or one of those written
-
-pub data Cell (s t : List ℕ) (p f : ℕ) (vs : List ℕ) (q g : ℕ) : Type 0 where
-  kept : byteAt t q g ≡ byteAt s q g → Cell s t p f vs q g
-  written : (i : ℕ) → i < length vs → q ≡ p → g ≡ f + i → byteAt t q g ≡ getD vs i 0 → Cell s t p f vs q g
-
-module _ (s : List ℕ) (p f : ℕ) (vs : List ℕ) (w : Within s p f (length vs)) where
-  new-byte : (i : ℕ) → i < length vs → byteAt (withBytes s p f vs) p (f + i) ≡ getD vs i 0
-  new-byte i l = byte-of-bytes (withBytes s p f vs) p f (length vs) i l ∙ ap (λ (l : List ℕ). getD l i 0) (bytes-same s p f vs w)
-
-  pub cell : (q g : ℕ) → g < 1152 → Cell s (withBytes s p f vs) p f vs q g
-  cell q g h = go (decLt p q) (decLt q p) (decLt g f) (decLt g (f + length vs))
-    where
-      go : Dec (p < q) → Dec (q < p) → Dec (g < f) → Dec (g < f + length vs) → Cell s (withBytes s p f vs) p f vs q g
-      go (yes a) b c d = kept (byte-other s p f vs q g (places-apart p f (length vs) q g 1 (w .room) (omega arith) (inl a)))
-      go (no a) (yes b) c d = kept (byte-other s p f vs q g (places-apart p f (length vs) q g 1 (w .room) (omega arith) (inr b)))
-      go (no a) (no b) (yes c) d = kept (byte-other s p f vs q g (inr (omega arith)))
-      go (no a) (no b) (no c) (yes d) =
-          let e : q ≡ p = omega arith in
-          let i : g ≡ f + (g - f) = omega arith in
-          written (g - f) (omega arith) e i (subst (λ (k : ℕ). byteAt (withBytes s p f vs) q k ≡ getD vs (g - f) 0) (sym i)
-          (rw e (new-byte (g - f) (omega arith))))
-      go (no a) (no b) (no c) (no d) = kept (byte-other s p f vs q g (inl (omega arith)))
-
-  -- a byte of another place
-  pub other-place : (q g : ℕ) → g < 1152 → q ≢ p → byteAt (withBytes s p f vs) q g ≡ byteAt s q g
-  other-place q g l n = go (cell q g l)
-    where
-      go : Cell s (withBytes s p f vs) p f vs q g → byteAt (withBytes s p f vs) q g ≡ byteAt s q g
-      go (kept e) = e
-      go (written i m a e v) = absurd (n a)
+use Rattle.usb_sound.proofs.Hubs.{byte-used}
 
 -- ---- the rules on single bytes
 
@@ -155,7 +125,7 @@ pub later : {b : Bool} {s t : List ℕ} {p k : ℕ} → Since b s t → At s p k
 later {p} o u = record { inside = u .inside; used = omega (arith, u .used, o .used p (u .inside)); hub = omega (arith, u .hub, o .hub p (u .inside)) }
 
 pub is-used : {s : List ℕ} {p k : ℕ} → Sound s → At s p k → IsUsed s p
-is-used {p} r u = (u .inside, ⊎-elim (λ e. absurd (omega (arith, e, u .used))) (⊎-elim (λ e. e) (λ z. absurd z)) (r .used p (u .inside)))
+is-used {s} {p} r u = (u .inside, byte-used s r p Used (u .inside) (omega arith) (λ e. omega (arith, e, u .used)))
 
 -- ---- an edit that leaves every place where it stands
 
@@ -252,7 +222,7 @@ module _ {b : Bool} {s : List ℕ} (r : Sound s) {p : ℕ} (u : At s p 0) (f : �
     hub = λ e q l. still q Hub (omega arith) (λ v m. m .hub e refl);
     used = λ q. still q Used (omega arith) (λ v m. m .used refl);
     child = still-child;
-    unused = λ q z g l. other-place s p f vs within q g l (λ a. omega (arith, u .used, z, ap (λ (k : ℕ). byteAt s k Used) a));
+    unused = λ q z g l. other-place s p f vs q g (within .room) l (λ a. omega (arith, u .used, z, ap (λ (k : ℕ). byteAt s k Used) a));
     parent = λ h j q a l c. ⊎-elim (λ e. inl (still-parent q ∙ e))
         (λ e. inr (still-parent q ∙ e .0, still q PortNumber (omega arith) (λ v m. m .port refl) ∙ e .1));
     root-parent = still-parent 0 ∙ r .root-parent;
@@ -302,15 +272,6 @@ hub-edit {s} r {p} u v grows most = byte-edit r u Hub v (record {
 
 -- ---- stores that differ in a few bytes
 
--- a byte other than the one written
-pub one-other : {s : List ℕ} {p f : ℕ} → Within s p f 1 → (v q g : ℕ) → g < 1152 → (q ≡ p → g ≡ f → ⊥)
-    → byteAt (withByte s p f v) q g ≡ byteAt s q g
-one-other {s} {p} {f} w v q g l n = go (cell s p f (v ∷ []) w q g l)
-  where
-    go : Cell s (withByte s p f v) p f (v ∷ []) q g → byteAt (withByte s p f v) q g ≡ byteAt s q g
-    go (kept e) = e
-    go (written i m a e x) = absurd (n a (omega arith))
-
 -- the error of a place, where its four bytes are as they were
 pub error-same : {s : List ℕ} (t : List ℕ) → Sound s → length t ≡ length s → (q : ℕ) → q < 32
     → ((i : ℕ) → i < 4 → byteAt t q (8 + i) ≡ byteAt s q (8 + i)) → OneOf (numberAt t q Error 4) errors
@@ -344,11 +305,12 @@ module _ {s : List ℕ} (r : Sound s) {p : ℕ} (u : At s p 0) (h j : ℕ) (insi
 
   same : (q g : ℕ) → g < 1152 → (q ≡ p → 5 ≤ g → g ≤ 6 → ⊥) → byteAt with-parent q g ≡ byteAt s q g
   same q g l n =
-      one-other port-within j q g l (λ a e. n a (omega arith) (omega arith)) ∙ one-other parent-within (h + 1) q g l (λ a e. n a (omega arith) (omega arith))
+      byte-else (withByte s p Parent (h + 1)) p PortNumber j q g (omega arith) l (λ a e. n a (omega arith) (omega arith))
+      ∙ byte-else s p Parent (h + 1) q g (omega arith) l (λ a e. n a (omega arith) (omega arith))
 
   here : (byteAt with-parent p Parent ≡ h + 1) × (byteAt with-parent p PortNumber ≡ j)
   here = (
-    one-other port-within j p Parent (omega arith) (λ a (e : _≡_ {A = ℕ} 6 5). omega arith) ∙ byte-same s p Parent (h + 1) parent-within,
+    byte-else (withByte s p Parent (h + 1)) p PortNumber j p Parent (omega arith) (omega arith) (λ a (e : _≡_ {A = ℕ} 6 5). omega arith) ∙ byte-same s p Parent (h + 1) parent-within,
     byte-same (withByte s p Parent (h + 1)) p PortNumber j port-within,
   )
 

@@ -55,6 +55,15 @@ module _ {h₀ : List Event} where
       → ((s : State h₀) → P′ s → P s) → Does P m Q N → Does P′ m Q N
   does-pre f h = record { run = λ s p. h .run s (f s p) }
 
+  pub does-post : {A : Type 0} {P : State h₀ → Type 0} {Q Q′ : A → State h₀ → Type 0} {N : State h₀ → Type 0} {m : M A}
+      → ((a : A) (s : State h₀) → Q a s → Q′ a s) → Does P m Q N → Does P m Q′ N
+  does-post g h = record { run = λ s p. leads-map (h .run s p) g (λ s n. n) }
+
+  -- of two facts, the first
+  pub does-first : {A : Type 0} {P : State h₀ → Type 0} {Q R : A → State h₀ → Type 0} {N : State h₀ → Type 0} {m : M A}
+      → Does P m (λ a s. Q a s × R a s) N → Does P m Q N
+  does-first h = does-post (λ a s q. q .0) h
+
   -- a fact that the state gives
   pub does-given : {A F : Type 0} {P : State h₀ → Type 0} {Q : A → State h₀ → Type 0} {N : State h₀ → Type 0} {m : M A}
       → ((s : State h₀) → P s → F) → (F → Does P m Q N) → Does P m Q N

@@ -112,13 +112,23 @@ resetting = 0x11 ∷ 0x01 ∷ 0x00 ∷ 0x00 ∷ []
 abbrev pub resetDone : List ℕ
 resetDone = 0x03 ∷ 0x01 ∷ 0x10 ∷ 0x00 ∷ []
 
--- the attach of a hub at high speed, of whose ports so many are powered and read, and vacant
+-- the attach of a hub at high speed: it has its address and is read again, 3 requests; is configured, 6; has its hub descriptor, 8;
+-- has power at so many ports, and its status was read before and after, 10 and one for each of them
+unfoldable pub addressed : List ℕ
+addressed = gives device ++ succeeds ++ gives device
+
+unfoldable pub configured : List ℕ
+configured = addressed ++ gives (take 9 configuration) ++ gives configuration ++ succeeds
+
+unfoldable pub described : ℕ → ℕ → List ℕ
+described ports delay = configured ++ gives (take 2 (hubDescriptor ports delay)) ++ gives (hubDescriptor ports delay)
+
+unfoldable pub powered : ℕ → ℕ → ℕ → List ℕ
+powered ports read delay = described ports delay ++ gives hubStatus ++ repeat read succeeds ++ gives hubStatus
+
+-- and the ports are read, and vacant
 unfoldable pub vacantHub : ℕ → ℕ → ℕ → List ℕ
-vacantHub ports read delay =
-    gives device ++ succeeds ++ gives device
-    ++ gives (take 9 configuration) ++ gives configuration ++ succeeds
-    ++ gives (take 2 (hubDescriptor ports delay)) ++ gives (hubDescriptor ports delay)
-    ++ gives hubStatus ++ repeat read succeeds ++ gives hubStatus ++ repeat read (gives vacant)
+vacantHub ports read delay = powered ports read delay ++ repeat read (gives vacant)
 
 -- ---- stores
 

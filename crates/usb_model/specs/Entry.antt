@@ -13,7 +13,7 @@ use Rattle.usb_store.specs.Layout.{Places, StoreLength, Used, Hub}
 use Rattle.usb_store.specs.Access.{byteAt}
 use Rattle.usb_store.specs.Values.{NoHub}
 use Rattle.usb_sound.specs.Test.{sound}
-use Rattle.usb_model.specs.Programs.{if_then_else_, Ran, done, fail, halt}
+use Rattle.usb_model.specs.Programs.{if_then_else_, Ran, done, fail, halt, endOf}
 use Rattle.usb_model.specs.World.{World, M}
 use Rattle.usb_model.specs.Walk.{RecordLength, walk}
 use Rattle.usb_model.specs.Hub.{hubPortReset, hubChildReset, hubPortConnectionChanged, hubCheckConnection, hubCheckConnectionDevice, hubCheckForChange}
@@ -96,12 +96,16 @@ start lent = record {
 abbrev pub leaves : ℤ → World → Left
 leaves answer w = record { answer = answer; requests = w .at .requests; new = w .store; log = w .log }
 
+-- how a run ended, as a number of document 01's table
+abbrev pub numberOf : Ran World (Unit {0}) → ℤ
+numberOf (done a w) = minus 0
+numberOf (fail e w) = errorNumber e
+numberOf (halt h w) = haltNumber h
+
 -- "Every other answer leaves in the new store the state at that moment, in the log the actions so far, and the number of requests
 -- logged"
 abbrev pub answered : Ran World (Unit {0}) → Left
-answered (done a w) = leaves (minus 0) w
-answered (fail e w) = leaves (errorNumber e) w
-answered (halt h w) = leaves (haltNumber h) w
+answered r = leaves (numberOf r) (endOf r)
 
 -- "These entry refusals change no lent byte and report 0 requests"
 unfoldable pub call : Lent → Verdict → M (Unit {0}) → Left

@@ -6,7 +6,7 @@ use Prim.Native.Nat.{ℕ, zero, suc, _+_}
 use lib.Dec.{eqb}
 use lib.ListN.{getD, take, drop}
 use Rattle.usb_types.specs.Actions.{ActionLength}
-use Rattle.usb_types.specs.Numbers.{fromLittleEndian}
+use Rattle.usb_types.specs.Numbers.{numberIn}
 use Rattle.usb_types.specs.Outcomes.{resultOf}
 use Rattle.usb_types.specs.Requests.{SetFeature, SetAddress, SetConfiguration, ToDevice, ToPort}
 use Rattle.usb_types.specs.declared.request.UsbDeviceRequest.{UsbDeviceRequest}
@@ -28,9 +28,9 @@ unfoldable pub requestOf : List ℕ → UsbDeviceRequest
 requestOf setup = record {
   «request_type» = getD setup 0 0;
   request = getD setup 1 0;
-  value = fromLittleEndian (take 2 (drop 2 setup));
-  index = fromLittleEndian (take 2 (drop 4 setup));
-  length = fromLittleEndian (take 2 (drop 6 setup));
+  value = numberIn setup 2 2;
+  index = numberIn setup 4 2;
+  length = numberIn setup 6 2;
 }
 
 -- the history so far, and the outcomes that are left
@@ -48,7 +48,7 @@ readAction action r =
     cond (eqb (getD action 0 0) 1)
     (reading (asked (getD action 1 0) q (outcomeOf (q .length) (r .rest)) ∷ r .past) (drop (4 + sizeOf (r .rest)) (r .rest)))
     (cond (eqb (getD action 0 0) 2)
-    (reading (waited (fromLittleEndian (take 4 (drop 8 action))) ∷ r .past) (r .rest))
+    (reading (waited (numberIn action 8 4) ∷ r .past) (r .rest))
     (reading (framed ∷ r .past) (r .rest)))
 
 -- n actions of a log

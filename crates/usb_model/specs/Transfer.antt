@@ -4,7 +4,7 @@ use mathlib.Core.List.{List}
 use Prim.Native.Nat.{ℕ, _+_, _*_, min}
 use lib.Dec.{ltb}
 use lib.ListN.{length, getD, take, drop}
-use Rattle.usb_types.specs.Numbers.{fromLittleEndian}
+use Rattle.usb_types.specs.Numbers.{numberIn}
 use Rattle.usb_types.specs.Outcomes.{listed, errorWord, resultOf}
 use Rattle.usb_types.specs.Requests.{GetDescriptor, deviceRequest}
 use Rattle.usb_types.specs.Actions.{packetSize, requestAction}
@@ -37,7 +37,7 @@ outcomesLeft w = drop (w .at .taken) (w .outcomes)
 
 -- "bytes 2-3 the length, then that many data bytes", of the first of some outcomes
 abbrev pub sizeOf : List ℕ → ℕ
-sizeOf outcomes = fromLittleEndian (take 2 (drop 2 outcomes))
+sizeOf outcomes = numberIn outcomes 2 2
 
 -- that outcome, for a request that asks for so many bytes: "deliver the first min(length, asked) bytes"
 abbrev pub outcomeOf : ℕ → List ℕ → Outcome

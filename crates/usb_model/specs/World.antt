@@ -1,11 +1,12 @@
 -- What a call works on, and the few steps that every function is made of: access to the store, the log, waits.
-use mathlib.Core.List.{List}
+use mathlib.Core.List.{List, [], _∷_}
 use Prim.Native.Nat.{ℕ, _+_, _-_}
 use lib.Dec.{ltb}
 use lib.ListN.{length}
 use Rattle.usb_types.specs.Actions.{waitAction, frameIntervalAction, ActionLength}
 use Rattle.usb_types.specs.declared.types.Halt.the-variants.{LogFull}
-use Rattle.usb_store.specs.Access.{write, byteAt, bytesAt, numberAt, withBytes, withByte, withNumber}
+use Rattle.usb_types.specs.Numbers.{littleEndian}
+use Rattle.usb_store.specs.Access.{write, byteAt, bytesAt, numberAt, withBytes}
 use Rattle.usb_model.specs.declared.Progress.{Progress}
 use Rattle.usb_model.specs.Programs.{Program, _>>=_, _>>_, stop, look, change, when}
 
@@ -36,11 +37,11 @@ getNumber place field n = look (λ w. numberAt (w .store) place field n)
 unfoldable pub putBytes : ℕ → ℕ → List ℕ → M (Unit {0})
 putBytes place field vs = change (λ w. withStore (withBytes (w .store) place field vs) w)
 
-unfoldable pub put : ℕ → ℕ → ℕ → M (Unit {0})
-put place field v = change (λ w. withStore (withByte (w .store) place field v) w)
+abbrev pub put : ℕ → ℕ → ℕ → M (Unit {0})
+put place field v = putBytes place field (v ∷ [])
 
-unfoldable pub putNumber : ℕ → ℕ → ℕ → ℕ → M (Unit {0})
-putNumber place field n v = change (λ w. withStore (withNumber (w .store) place field n v) w)
+abbrev pub putNumber : ℕ → ℕ → ℕ → ℕ → M (Unit {0})
+putNumber place field n v = putBytes place field (littleEndian n v)
 
 -- ---- the log (document 01, "Action")
 

@@ -25,7 +25,8 @@ abbrev pub reading : {B : Type 0} → ℕ → ℕ → ℕ → (ℕ → M B) → 
 reading hub port us k = microDelay us >> (hubPortGetStatus hub port >> (portStatus hub port >>= k))
 
 module _ {B : Type 0} (hub port us : ℕ) (k : ℕ → M B) {w v : World} where
-  read-then : {a : Answer} {y : B} {u : World} → Ends (delayedStatus hub port us) w Ok tt v → Ends (k (statusIn v hub port)) v a y u → Ends (reading hub port us k) w a y u
+  read-then : {a : Answer} {y : B} {u : World} → Ends (delayedStatus hub port us) w Ok tt v
+      → Ends (k (statusIn v hub port)) v a y u → Ends (reading hub port us k) w a y u
   unfolding delayedStatus portStatus
   read-then d r = grouped _ _ _ (next d (got-number _ _ _ k r))
 
@@ -49,11 +50,13 @@ module _ (hub port us : ℕ) (await : ℕ → M Bool) (test seen : ℕ → Bool)
       let r = read-then hub port us (λ status. cond (test status) (return (seen n)) (await n)) d (taken-if (await n) t (returned (seen n) (d .fit))) in
       rw e (record { is = turn n w ∙ r .is; fit = r .fit })
 
-  pub await-goes : {m : M Bool} {u : World} → Going m u (await left) w → Ends (delayedStatus hub port us) w Ok tt v → test (statusIn v hub port) ≡ false
+  pub await-goes : {m : M Bool} {u : World} → Going m u (await left) w
+      → Ends (delayedStatus hub port us) w Ok tt v → test (statusIn v hub port) ≡ false
       → length (v .store) ≡ length (w .store) → length (v .log) ≡ length (w .log) → Going m u (await n) v
   await-goes g d t = goes-to (rw e at g) (await n) v (turn n w ∙ read-is hub port us _ d ∙ rw t refl) (d .fit)
 
-reset-turn : (hub port n : ℕ) (w : World) → awaitReset (suc n) hub port w ≡ reading hub port 50000 (λ status. cond (bit C-PORT-RESET status) (return true) (awaitReset n hub port)) w
+reset-turn : (hub port n : ℕ) (w : World) → awaitReset (suc n) hub port w
+    ≡ reading hub port 50000 (λ status. cond (bit C-PORT-RESET status) (return true) (awaitReset n hub port)) w
 unfolding awaitReset
 reset-turn hub port n w = refl
 
@@ -64,10 +67,12 @@ module _ (hub port left : ℕ) {w v : World} (l : 0 < left) where
   pub reset-ended : {a : Answer} → Ends (delayedStatus hub port 50000) w a tt v → NotOk a → Ends (awaitReset left hub port) w a false v
   reset-ended = await-ended hub port 50000 (λ n. awaitReset n hub port) (bit C-PORT-RESET) (λ _. true) (reset-turn hub port) left (left - 1) (some l)
 
-  pub reset-seen : Ends (delayedStatus hub port 50000) w Ok tt v → bit C-PORT-RESET (statusIn v hub port) ≡ true → Ends (awaitReset left hub port) w Ok true v
+  pub reset-seen : Ends (delayedStatus hub port 50000) w Ok tt v → bit C-PORT-RESET (statusIn v hub port) ≡ true
+      → Ends (awaitReset left hub port) w Ok true v
   reset-seen = await-seen hub port 50000 (λ n. awaitReset n hub port) (bit C-PORT-RESET) (λ _. true) (reset-turn hub port) left (left - 1) (some l)
 
-  pub reset-goes : {m : M Bool} {u : World} → Going m u (awaitReset left hub port) w → Ends (delayedStatus hub port 50000) w Ok tt v → bit C-PORT-RESET (statusIn v hub port) ≡ false
+  pub reset-goes : {m : M Bool} {u : World} → Going m u (awaitReset left hub port) w
+      → Ends (delayedStatus hub port 50000) w Ok tt v → bit C-PORT-RESET (statusIn v hub port) ≡ false
       → length (v .store) ≡ length (w .store) → length (v .log) ≡ length (w .log) → Going m u (awaitReset (left - 1) hub port) v
   reset-goes = await-goes hub port 50000 (λ n. awaitReset n hub port) (bit C-PORT-RESET) (λ _. true) (reset-turn hub port) left (left - 1) (some l)
 

@@ -6,68 +6,54 @@ use lib.ListN.{length}
 use Rattle.usb_types.specs.declared.types.ErrorCode.the-variants.{Device}
 use Rattle.usb_types.specs.declared.types.Answer.{Answer}
 use Rattle.usb_types.specs.declared.types.Answer.the-variants.{Ok, Error}
-use Rattle.usb_model.specs.Programs.{Ran, done, fail, halt, on, _>>=_, _>>_, return, skip, throw, look, when}
-use Rattle.usb_model.specs.World.{World, M, getNumber}
+use Rattle.usb_model.specs.Programs.{_>>=_, _>>_, skip}
+use Rattle.usb_model.specs.World.{World, M}
 use Rattle.usb_model.specs.Features.{PORT-ENABLE, PORT-RESET, bit}
 use Rattle.usb_model.specs.Hub.{setPortFeature, portStatus, awaitEnabled, resetTries}
 use Rattle.usb_transfer.specs.Runs.{Fit, Ends}
+use Rattle.usb_transfer.proofs.Regroups.{Same, back, ends-as, bind-bind, next-bind, given}
 use Rattle.usb_transfer.proofs.Steps.{NotOk, bind-is, bound, bound-ended, next, got-number, taken-if, unless, thrown, skipped, returned, Going, goes-to}
 use Rattle.usb_port.proofs.Awaits.{statusIn, some}
 use Rattle.usb_retry.specs.Parts.{isLost, tryReset}
 
 -- ---- one try, after the reads
 
-module _ (hub port : ℕ) {w u v : World} (set : Ends (setPortFeature hub PORT-RESET port) w Ok tt u) (seen : Bool) (reads : Ends (awaitEnabled 10 hub port) u Ok seen v) where
+module _ (hub port : ℕ) {w u v : World} (set : Ends (setPortFeature hub PORT-RESET port) w Ok tt u)
+    (seen : Bool) (reads : Ends (awaitEnabled 10 hub port) u Ok seen v) where
   pub try-lost : seen ≡ true → isLost (statusIn v hub port) ≡ true → Ends (tryReset hub port) w (Error Device) false v
   unfolding tryReset portStatus
   try-lost s l = next set (bound _ reads (got-number _ _ _ _ (thrown _ _ false (rw (s, l) refl) (reads .fit))))
 
-  pub try-kept : seen ≡ true → isLost (statusIn v hub port) ≡ false → (enabled : Bool) → enabled ≡ bit PORT-ENABLE (statusIn v hub port) → Ends (tryReset hub port) w Ok enabled v
+  try-done : (seen && isLost (statusIn v hub port)) ≡ false → Ends (tryReset hub port) w Ok (seen && bit PORT-ENABLE (statusIn v hub port)) v
+  unfolding tryReset portStatus
+  try-done t = next set (bound _ reads (got-number _ _ _ _ (unless _ t (returned _ (reads .fit)))))
+
+  pub try-kept : seen ≡ true → isLost (statusIn v hub port) ≡ false → (enabled : Bool) → enabled ≡ bit PORT-ENABLE (statusIn v hub port)
+      → Ends (tryReset hub port) w Ok enabled v
   unfolding tryReset portStatus
   try-kept s l enabled e =
       let value : (seen && bit PORT-ENABLE (statusIn v hub port)) ≡ enabled = rw (s, e) refl in
-      rw (← value) (next set (bound _ reads (got-number _ _ _ _ (unless _ (rw (s, l) refl) (returned (seen && bit PORT-ENABLE (statusIn v hub port)) (reads .fit))))))
+      let there : (seen && isLost (statusIn v hub port)) ≡ false = rw (s, l) refl in
+      rw (← value) (try-done there)
 
   pub try-unseen : seen ≡ false → Ends (tryReset hub port) w Ok seen v
   unfolding tryReset portStatus
   try-unseen s =
       let value : (seen && bit PORT-ENABLE (statusIn v hub port)) ≡ false = rw s refl in
       let none : (seen && isLost (statusIn v hub port)) ≡ false = rw s refl in
-      rw (s, ← value) (next set (bound _ reads (got-number _ _ _ _ (unless _ none (returned (seen && bit PORT-ENABLE (statusIn v hub port)) (reads .fit))))))
+      rw (s, ← value) (try-done none)
 
 -- ---- a turn of the tries
 
-module _ (hub port n : ℕ) where
-  tries-turn : (w : World) → resetTries (suc n) hub port w ≡ (tryReset hub port >>= (λ enabled. cond enabled skip (resetTries n hub port))) w
-  unfolding resetTries tryReset isLost portStatus getNumber look when skip throw return _>>=_ _>>_
-  tries-turn w = set-cases (setPortFeature hub PORT-RESET port w)
-    where
-      rest : Bool → ℕ → M (Unit {0})
-      rest seen status = cond (seen && bit PORT-ENABLE status) skip (resetTries n hub port)
+tries-turn : (hub port n : ℕ)
+    → Same (resetTries (suc n) hub port) (tryReset hub port >>= (λ enabled. cond enabled skip (resetTries n hub port)))
+unfolding resetTries tryReset isLost
+tries-turn hub port n = back (next-bind _ _ _ (bind-bind _ _ _ (λ seen. bind-bind _ _ _ (λ status. next-bind _ _ _ (given _ _)))))
 
-      test-cases : (lost : Bool) (seen : Bool) (v : World)
-          → on (cond lost (throw {A = Unit {0}} Device) skip v) (λ _. rest seen (statusIn v hub port))
-          ≡ on (on (cond lost (throw {A = Unit {0}} Device) skip v) (λ _. return (seen && bit PORT-ENABLE (statusIn v hub port)))) (λ enabled. cond enabled skip (resetTries n hub port))
-      test-cases true seen v = refl
-      test-cases false seen v = refl
-
-      reads-cases : (r : Ran World Bool)
-          → on r (λ seen v. on (cond (seen && isLost (statusIn v hub port)) (throw {A = Unit {0}} Device) skip v) (λ _. rest seen (statusIn v hub port)))
-          ≡ on (on r (λ seen v. on (cond (seen && isLost (statusIn v hub port)) (throw {A = Unit {0}} Device) skip v) (λ _. return (seen && bit PORT-ENABLE (statusIn v hub port))))) (λ enabled. cond enabled skip (resetTries n hub port))
-      reads-cases (done seen v) = test-cases (seen && isLost (statusIn v hub port)) seen v
-      reads-cases (fail e v) = refl
-      reads-cases (halt h v) = refl
-
-      set-cases : (r : Ran World (Unit {0}))
-          → on r (λ _ u. on (awaitEnabled 10 hub port u) (λ seen v. on (cond (seen && isLost (statusIn v hub port)) (throw {A = Unit {0}} Device) skip v) (λ _. rest seen (statusIn v hub port))))
-          ≡ on (on r (λ _ u. on (awaitEnabled 10 hub port u) (λ seen v. on (cond (seen && isLost (statusIn v hub port)) (throw {A = Unit {0}} Device) skip v) (λ _. return (seen && bit PORT-ENABLE (statusIn v hub port)))))) (λ enabled. cond enabled skip (resetTries n hub port))
-      set-cases (done x u) = reads-cases (awaitEnabled 10 hub port u)
-      set-cases (fail e u) = refl
-      set-cases (halt h u) = refl
-
-turned : (hub port left : ℕ) → 0 < left → {r : Answer} {w u : World} → Ends (tryReset hub port >>= (λ enabled. cond enabled skip (resetTries (left - 1) hub port))) w r tt u
+turned : (hub port left : ℕ) → 0 < left → {r : Answer} {w u : World}
+    → Ends (tryReset hub port >>= (λ enabled. cond enabled skip (resetTries (left - 1) hub port))) w r tt u
     → Ends (resetTries left hub port) w r tt u
-turned hub port left l {w = w} e = rw (some l) (record { is = tries-turn hub port (left - 1) w ∙ e .is; fit = e .fit })
+turned hub port left l e = rw (some l) (ends-as (back (tries-turn hub port (left - 1))) e)
 
 module _ (hub port left : ℕ) {w v : World} (l : 0 < left) where
   pub tries-ended : {a : Answer} {enabled : Bool} → Ends (tryReset hub port) w a enabled v → NotOk a → Ends (resetTries left hub port) w a tt v
@@ -81,7 +67,7 @@ module _ (hub port left : ℕ) {w v : World} (l : 0 < left) where
         → length (v .store) ≡ length (w .store) → length (v .log) ≡ length (w .log) → Going m u (resetTries (left - 1) hub port) v
     tries-goes e g =
         goes-to (rw (some l) at g) (resetTries (left - 1) hub port) v
-        (tries-turn hub port (left - 1) w ∙ bind-is (tryReset hub port) w _ (d .is) _ ∙ rw e refl) (d .fit)
+        (tries-turn hub port (left - 1) .is w ∙ bind-is (tryReset hub port) w _ (d .is) _ ∙ rw e refl) (d .fit)
 
 pub tries-none : (hub port left : ℕ) {w : World} → left ≡ 0 → Fit w → Ends (resetTries left hub port) w Ok tt w
 unfolding resetTries skip

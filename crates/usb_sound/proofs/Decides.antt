@@ -12,13 +12,14 @@ use lib.Seq.{getD-drop}
 use Rattle.usb_store.specs.Layout.{Places, PlaceLength, StoreLength, Used, Parent, Child, Ports}
 use Rattle.usb_store.specs.Access.{offset, byteAt}
 use Rattle.usb_device.specs.Device.{firstUnused, firstUnusedFrom}
-use Rattle.usb_device.proofs.Free.{first-most, first-before, first-unused}
+use Rattle.usb_device.proofs.Free.{first-most}
 use Rattle.usb_place.specs.Rules.{Decides}
 use Rattle.usb_place.specs.Test.{zeros, every, usedSound}
 use Rattle.usb_place.proofs.Tests.{below, eq-decides, as-decides, and-decides, zeros-decides, every-decides}
 use Rattle.usb_place.proofs.Rules.{Place, place-decides, blank}
 use Rattle.usb_sound.specs.Sound.{IsUsed, IsChild, ParentFits, ChildOnce, Sound}
 use Rattle.usb_sound.specs.Test.{markHubs, allSeen, treeSound, storeSound, sound}
+use Rattle.usb_sound.proofs.Hubs.{used-leads, before-used}
 use Rattle.usb_sound.proofs.Rules.{place-of}
 use Rattle.usb_sound.proofs.Marks.{childByte, Good, Tree, tree-decides}
 
@@ -123,26 +124,9 @@ module _ (s : List ℕ) (whole : length s ≡ StoreLength) (t : Front s (firstUn
 
 -- from the rules to the test
 module _ (s : List ℕ) (r : Sound s) where
-  -- a used place is a leading one
-  used-leads : (p : ℕ) → IsUsed s p → p < firstUnused s
-  used-leads p u = ⊎-elim (λ l. l) (λ l. absurd (past l)) (below p (firstUnused s))
-    where
-      past : firstUnused s ≤ p → ⊥
-      past l =
-          let n = firstUnused s in
-          let free = first-unused s (omega (arith, u .0)) in
-          ⊎-elim (λ (m : n < p). let v = r .packed n p m u .1 in omega (arith, v, free))
-          (λ (m : p ≤ n). let i : p ≡ n = omega arith in let v = subst (λ (k : ℕ). byteAt s k Used ≡ 1) i (u .1) in omega (arith, v, free)) (below n p)
-
-  -- a place before the first unused one is used
-  before-used : (p : ℕ) → p < firstUnused s → IsUsed s p
-  before-used p l =
-      let m : p < Places = omega (arith, first-most s) in
-      (m, ⊎-elim (λ z. absurd (first-before s p l z)) (⊎-elim (λ u. u) (λ x. absurd x)) (r .used p m))
-
   unused-past : (p : ℕ) → firstUnused s ≤ p → p < Places → byteAt s p Used ≡ 0
   unused-past p l m =
-      ⊎-elim (λ z. z) (⊎-elim (λ u. absurd (let k = used-leads p (m, u) in omega (arith, k))) (λ x. absurd x)) (r .used p m)
+      ⊎-elim (λ z. z) (⊎-elim (λ u. absurd (let k = used-leads s r p (m, u) in omega (arith, k))) (λ x. absurd x)) (r .used p m)
 
   pub zeros-past : (i : ℕ) → getD (drop (firstUnused s * PlaceLength) s) i 0 ≡ 0
   unfolding byteAt
@@ -182,7 +166,7 @@ module _ (s : List ℕ) (r : Sound s) where
     good-child =
         record {
           above = omega (arith, its-place .smaller, its-hub .0, x);
-          used = omega (arith, used-leads (childByte s h q - 1) the-child, x);
+          used = omega (arith, used-leads s r (childByte s h q - 1) the-child, x);
           parent = its-parent;
         }
 
@@ -191,7 +175,7 @@ module _ (s : List ℕ) (r : Sound s) where
       record {
         rest = zeros-past;
         root-parent = r .root-parent;
-        places = λ p a l. (before-used p (omega arith) .1, place-of s r p (omega (arith, first-most s)));
+        places = λ p a l. (before-used s r p (omega arith) .1, place-of s r p (omega (arith, first-most s)));
         tree =
             record {
               ok = good-child;
@@ -202,7 +186,7 @@ module _ (s : List ℕ) (r : Sound s) where
                   (i .0 ∙ sym (j .0), i .1 ∙ sym (j .1));
               all =
                   λ p l m.
-                  let w = r .child p l (before-used p m) in
+                  let w = r .child p l (before-used s r p m) in
                   let b : w .hub * Ports + w .port < firstUnused s * Ports = omega (arith, w .smaller, w .within) in
                   record { hub = w .hub; port = w .port; within = w .within; before = b; stands = w .stands };
             };

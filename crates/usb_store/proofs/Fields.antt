@@ -1,15 +1,15 @@
 -- Record access, once over the place and the field, and for numbers once over the width: what was written is read back, what
 -- lies in another field or another place is as it was, and the store's length is kept. Assumes nothing.
-use mathlib.Core.Path.{_≡_, refl, sym, ap, _∙_}
+use mathlib.Core.Path.{_≡_, sym, ap, _∙_}
 use mathlib.Core.Logic.{_⊎_, inl, inr, ⊎-elim}
 use mathlib.Core.List.{List, [], _∷_}
-use Prim.Native.Nat.{ℕ, suc, _+_, _*_, _-_, _≤_, _<_, _^_, min}
+use Prim.Native.Nat.{ℕ, _+_, _*_, _-_, _≤_, _<_, _^_, min}
 use native.Mathlib.Nat.{add-assoc, add-zero}
 use native.Mathlib.Omega.{arith}
 use lib.ListN.{length, getD, drop, length-take, length-drop}
-use lib.Seq.{getD-take, getD-drop, ext-getD, drop-cons}
-use Rattle.usb_types.specs.Numbers.{littleEndian, fromLittleEndian}
-use Rattle.usb_types.proofs.LittleEndian.{length-le, from-le}
+use lib.Seq.{getD-take, getD-drop, ext-getD}
+use Rattle.usb_types.specs.Numbers.{littleEndian, fromLittleEndian, numberIn}
+use Rattle.usb_types.proofs.LittleEndian.{length-le, from-le, number-2 as in-list-2, number-4 as in-list-4}
 use Rattle.usb_store.specs.Access.{offset, Within, byteAt, bytesAt, withByte, withBytes, numberAt, withNumber}
 use Rattle.usb_store.proofs.Writes.{length-write, write-same, write-other}
 
@@ -111,36 +111,19 @@ byte-same s p f v w = rw (← add-zero (offset p f)) (elem-same s p f (v ∷ [])
 
 -- ---- numbers of n bytes
 
--- a number by its lowest byte and the rest
-number-more : (s : List ℕ) (p f k n : ℕ) → offset p (f + k) < length s
-    → numberAt s p (f + k) (suc n) ≡ byteAt s p (f + k) + 256 * numberAt s p (f + suc k) n
-unfolding bytesAt byteAt
-number-more s p f k n h =
-    let next : suc (offset p (f + k)) ≡ offset p (f + suc k) = omega arith in
-    rw (drop-cons s (offset p (f + k)) 0, next)
+module _ (s : List ℕ) (p f : ℕ) where
+  next-byte : (k : ℕ) → byteAt s p (f + k) ≡ getD s (offset p f + k) 0
+  unfolding byteAt
+  next-byte k = rw (← add-assoc (p * 1152) f k)
 
-number-none : (s : List ℕ) (p f : ℕ) → numberAt s p f 0 ≡ 0
-unfolding bytesAt
-number-none s p f = refl
+  pub number-2 : Within s p f 2 → numberAt s p f 2 ≡ byteAt s p f + byteAt s p (f + 1) * 256
+  unfolding bytesAt numberIn byteAt
+  number-2 w = rw (next-byte 1) (in-list-2 s (offset p f) (omega arith))
 
-number-first : (s : List ℕ) (p f n : ℕ) → offset p f < length s → numberAt s p f (suc n) ≡ byteAt s p f + 256 * numberAt s p (f + 1) n
-number-first s p f n h = rw add-zero at (number-more s p f 0 n (rw add-zero h))
-
-pub number-2 : (s : List ℕ) (p f : ℕ) → Within s p f 2 → numberAt s p f 2 ≡ byteAt s p f + byteAt s p (f + 1) * 256
-number-2 s p f w =
-    omega (arith, number-first s p f 1 (omega arith), number-more s p f 1 0 (omega arith), number-none s p (f + 2))
-
-pub number-4 : (s : List ℕ) (p f : ℕ) → Within s p f 4
-    → numberAt s p f 4 ≡ byteAt s p f + byteAt s p (f + 1) * 256 + byteAt s p (f + 2) * 65536 + byteAt s p (f + 3) * 16777216
-number-4 s p f w =
-    omega (
-      arith,
-      number-first s p f 3 (omega arith),
-      number-more s p f 1 2 (omega arith),
-      number-more s p f 2 1 (omega arith),
-      number-more s p f 3 0 (omega arith),
-      number-none s p (f + 4),
-    )
+  pub number-4 : Within s p f 4
+      → numberAt s p f 4 ≡ byteAt s p f + byteAt s p (f + 1) * 256 + byteAt s p (f + 2) * 65536 + byteAt s p (f + 3) * 16777216
+  unfolding bytesAt numberIn byteAt
+  number-4 w = rw (next-byte 1, next-byte 2, next-byte 3) (in-list-4 s (offset p f) (omega arith))
 
 pub number-same : (s : List ℕ) (p f n v : ℕ) → Within s p f n → v < 256 ^ n → numberAt (withNumber s p f n v) p f n ≡ v
 number-same s p f n v w h =

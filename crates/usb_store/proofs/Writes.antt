@@ -65,6 +65,20 @@ write-same (x ∷ s) zero (v ∷ vs) (suc k) r h =
     let deeper : getD (write s zero vs) (zero + k) 0 ≡ getD vs k 0 = write-same s zero vs k (omega arith) (omega arith) in
     rw zero-add (rw zero-add at deeper)
 
+-- what stands before a write, and at it
+pub take-write : (s : List ℕ) (i : ℕ) (vs : List ℕ) → take i (write s i vs) ≡ take i s
+take-write [] i vs = refl
+take-write (x ∷ s) (suc i) vs = ap (λ (l : List ℕ). x ∷ l) (take-write s i vs)
+take-write (x ∷ s) zero vs = refl
+
+pub at-write : (s : List ℕ) (i : ℕ) (vs : List ℕ) → i + length vs ≤ length s → take (length vs) (drop i (write s i vs)) ≡ vs
+at-write [] zero [] h = refl
+at-write [] zero (v ∷ vs) h = absurd (omega arith)
+at-write [] (suc i) vs h = absurd (omega arith)
+at-write (x ∷ s) (suc i) vs h = at-write s i vs (omega arith)
+at-write (x ∷ s) zero [] h = refl
+at-write (x ∷ s) zero (v ∷ vs) h = ap (λ (l : List ℕ). v ∷ l) (at-write s zero vs (omega arith))
+
 -- a part of a list that was lent, `&mut s[i..i + k]`, comes back as vs
 spliced : (s : List ℕ) (i : ℕ) (vs : List ℕ) → i + length vs ≤ length s → take i s ++ (vs ++ drop (i + length vs) s) ≡ write s i vs
 spliced [] zero [] h = refl

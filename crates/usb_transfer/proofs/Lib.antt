@@ -1,3 +1,4 @@
+pub mod Regroups
 pub mod Steps
 pub mod Logged
 pub mod Outcomes

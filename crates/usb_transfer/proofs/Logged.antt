@@ -52,13 +52,18 @@ module _ (l : List ℕ) (at : Progress) (action l′ : List ℕ) (at′ : Progre
   pub request-logged : Writes (logAction action) l at Ok l′ at′ → Room l at
       → Writes (logRequest action) l at Ok l′ (record { logged = at′ .logged; taken = at′ .taken; requests = at′ .requests + 1 })
   unfolding logRequest change
-  request-logged r room = record {
-    is = λ s o. then-is (logAction action) _ _ (r .is s o) (change counted);
-    room = let further = logged-at action l l′ at at′ (r .is [] []) in record { logged = r .room .logged; counted = omega (arith, ap (λ (p : Progress). p .requests) further, ap (λ (p : Progress). p .logged) further, room .counted) };
-    taken = r .taken;
-  }
+  request-logged r room =
+      let further = logged-at action l l′ at at′ (r .is [] []) in
+      let requests = ap (λ (p : Progress). p .requests) further in
+      let bytes = ap (λ (p : Progress). p .logged) further in
+      record {
+        is = λ s o. then-is (logAction action) _ _ (r .is s o) (change counted);
+        room = record { logged = r .room .logged; counted = omega (arith, requests, bytes, room .counted) };
+        taken = r .taken;
+      }
 
-pub fit-after : {m : M (Unit {0})} {s l o l′ : List ℕ} {at at′ : Progress} {a : Answer} → Writes m l at a l′ at′ → Fit (here s l o at) → Fit (here s l′ o at′)
+pub fit-after : {m : M (Unit {0})} {s l o l′ : List ℕ} {at at′ : Progress} {a : Answer}
+    → Writes m l at a l′ at′ → Fit (here s l o at) → Fit (here s l′ o at′)
 fit-after r f = record {
   whole = f .whole;
   logged = r .room .logged;
@@ -67,5 +72,6 @@ fit-after r f = record {
 }
 
 -- what a function of the log promises, of a world
-pub logged : {m : M (Unit {0})} {l l′ : List ℕ} {s o : List ℕ} {at at′ : Progress} {a : Answer} → Writes m l at a l′ at′ → Fit (here s l o at) → Ends m (here s l o at) a tt (here s l′ o at′)
+pub logged : {m : M (Unit {0})} {l l′ : List ℕ} {s o : List ℕ} {at at′ : Progress} {a : Answer}
+    → Writes m l at a l′ at′ → Fit (here s l o at) → Ends m (here s l o at) a tt (here s l′ o at′)
 logged {s = s} {o = o} r f = record { is = r .is s o; fit = fit-after r f }

@@ -1,13 +1,14 @@
 -- The ways through the outcome reader, over plain values. Assumes nothing.
 use mathlib.Core.Path.{_≡_, refl}
 use mathlib.Core.Bool.{Bool, true, false, _&&_, _||_}
-use mathlib.Core.List.{List, [], _∷_}
+use mathlib.Core.List.{List}
 use Prim.Native.Nat.{ℕ, _+_, _-_, _*_, _≤_, _<_}
 use native.Mathlib.Omega.{arith}
 use borrow.Author.Tests.{lt-ltb, le-ltb, ltb-true, eqb-true}
 use lib.Dec.{eqb, ltb}
 use lib.ListN.{length, getD, take, drop, length-drop}
 use lib.Seq.{take-all}
+use Rattle.usb_types.proofs.LittleEndian.{number-2}
 use Rattle.usb_types.specs.Outcomes.{listed}
 use Rattle.usb_types.specs.declared.types.Halt.the-variants.{GarbledOutcome, OutcomesSpent}
 use Rattle.usb_model.specs.Programs.{_>>=_, _>>_, return, stop, skip, look, change, when}
@@ -17,11 +18,7 @@ use Rattle.usb_transfer.specs.declared.outcome.NextOutcome.the-variants.
 use Rattle.usb_transfer.specs.Outcomes.{Takes}
 
 pub size-is : (rest : List ℕ) → 4 ≤ length rest → sizeOf rest ≡ getD rest 2 0 + getD rest 3 0 * 256
-size-is [] h = absurd (omega arith)
-size-is (a ∷ []) h = absurd (omega arith)
-size-is (a ∷ b ∷ []) h = absurd (omega arith)
-size-is (a ∷ b ∷ c ∷ []) h = absurd (omega arith)
-size-is (a ∷ b ∷ c ∷ d ∷ rest) h = omega arith
+size-is rest h = number-2 rest 2 h
 
 listed-submit : (s e : ℕ) → listed s e ≡ true → s < 10
 unfolding listed

@@ -18,9 +18,10 @@ use Rattle.usb_types.specs.declared.types.Answer.the-variants.{Ok, Error, Stop}
 use Rattle.usb_store.specs.Access.{byteAt, bytesAt, numberAt, withBytes}
 use Rattle.usb_store.proofs.Fields.{with-length}
 use Rattle.usb_model.specs.declared.Progress.{Progress}
-use Rattle.usb_model.specs.Programs.{Ran, done, fail, halt, on, _>>=_, _>>_, return, skip, throw, look, change, succeed, caught, attempt, when, each}
+use Rattle.usb_model.specs.Programs.{Ran, done, on, _>>=_, _>>_, return, skip, throw, look, change, succeed, caught, attempt, when, each}
 use Rattle.usb_model.specs.World.{World, M, get, getBytes, getNumber, putBytes, put}
 use Rattle.usb_transfer.specs.Runs.{here, Fit, gave, Ends, IfOk}
+use Rattle.usb_transfer.proofs.Regroups.{same, back, next-next, ends-as}
 
 -- ---- what a branch on an answer tells
 
@@ -42,6 +43,10 @@ unfolding NotOk
 otherwise p Ok n x = absurd n
 otherwise p (Error e) n x = x
 otherwise p (Stop h) n x = x
+
+-- a step whose answer is known to be Ok
+pub as-ok : {A : Type 0} {m : M A} {w v : World} {a : Answer} {x : A} → a ≡ Ok → Ends m w a x v → Ends m w Ok x v
+as-ok e r = rw e at r
 
 -- a step that did not answer Ok ends the run with its answer
 pub on-ended : {A B : Type 0} (a : Answer) (x : A) (y : B) (w : World) (k : A → M B) → NotOk a → on (gave a x w) k ≡ gave a y w
@@ -79,16 +84,10 @@ module _ {A B : Type 0} {m : M A} {w v : World} {x : A} where
 -- two statements that are a function of their own
 module _ {A B C : Type 0} (a : M A) (b : M B) (k : M C) where
   pub grouped-is : (w : World) → (a >> (b >> k)) w ≡ ((a >> b) >> k) w
-  unfolding _>>_
-  grouped-is w = go (a w)
-    where
-      go : (r : Ran World A) → on r (λ _. λ v. on (b v) (λ _. k)) ≡ on (on r (λ _. b)) (λ _. k)
-      go (done x v) = refl
-      go (fail e v) = refl
-      go (halt h v) = refl
+  grouped-is w = back (next-next a b k (same _)) .is w
 
   pub grouped : {w v : World} {r : Answer} {y : C} → Ends ((a >> b) >> k) w r y v → Ends (a >> (b >> k)) w r y v
-  grouped {w} e = record { is = grouped-is w ∙ e .is; fit = e .fit }
+  grouped e = ends-as (next-next a b k (same _)) e
 
 -- ---- access to the store
 
@@ -103,11 +102,11 @@ module _ {B : Type 0} {w v : World} {a : Answer} {y : B} where
 
 module _ {s l o : List ℕ} {at : Progress} (p f b : ℕ) (s′ : List ℕ) (e : s′ ≡ withBytes s p f (b ∷ [])) where
   pub put-then : {B : Type 0} {k : M B} {v : World} {a : Answer} {y : B} → Ends k (here s′ l o at) a y v → Ends (put p f b >> k) (here s l o at) a y v
-  unfolding put change _>>_
+  unfolding putBytes change _>>_
   put-then r = record { is = rw e at (r .is); fit = r .fit }
 
   pub put-last : Fit (here s l o at) → Ends (put p f b) (here s l o at) Ok tt (here s′ l o at)
-  unfolding put change
+  unfolding putBytes change
   put-last fit = record {
     is = rw e refl;
     fit = record { whole = ap length e ∙ with-length s p f (b ∷ []) ∙ fit .whole; logged = fit .logged; taken = fit .taken; counted = fit .counted };
@@ -123,21 +122,26 @@ module _ {B : Type 0} {w v : World} {a : Answer} {y : B} where
   unfolding get
   got-as p f k e r = looked _ k e r
 
-  pub got-number-as : (p f n : ℕ) (k : ℕ → M B) {x : ℕ} → x ≡ numberAt (w .store) p f n → Ends (k x) w a y v → Ends (getNumber p f n >>= k) w a y v
+  pub got-number-as : (p f n : ℕ) (k : ℕ → M B) {x : ℕ} → x ≡ numberAt (w .store) p f n
+      → Ends (k x) w a y v → Ends (getNumber p f n >>= k) w a y v
   unfolding getNumber
   got-number-as p f n k e r = looked _ k e r
 
-  pub got-bytes-as : (p f n : ℕ) (k : List ℕ → M B) {x : List ℕ} → x ≡ bytesAt (w .store) p f n → Ends (k x) w a y v → Ends (getBytes p f n >>= k) w a y v
+  pub got-bytes-as : (p f n : ℕ) (k : List ℕ → M B) {x : List ℕ} → x ≡ bytesAt (w .store) p f n
+      → Ends (k x) w a y v → Ends (getBytes p f n >>= k) w a y v
   unfolding getBytes
   got-bytes-as p f n k e r = looked _ k e r
 
 module _ {s l o : List ℕ} {at : Progress} (p f : ℕ) (bytes s′ : List ℕ) (e : s′ ≡ withBytes s p f bytes) where
-  pub put-bytes-then : {B : Type 0} {k : M B} {v : World} {a : Answer} {y : B} → Ends k (here s′ l o at) a y v → Ends (putBytes p f bytes >> k) (here s l o at) a y v
+  pub put-bytes-then : {B : Type 0} {k : M B} {v : World} {a : Answer} {y : B}
+      → Ends k (here s′ l o at) a y v → Ends (putBytes p f bytes >> k) (here s l o at) a y v
   unfolding putBytes change _>>_
   put-bytes-then r = record { is = rw e at (r .is); fit = r .fit }
 
   pub put-bytes-fit : Fit (here s l o at) → Fit (here s′ l o at)
-  put-bytes-fit fit = record { whole = ap length e ∙ with-length s p f bytes ∙ fit .whole; logged = fit .logged; taken = fit .taken; counted = fit .counted }
+  put-bytes-fit fit =
+      let whole = ap length e ∙ with-length s p f bytes ∙ fit .whole in
+      record { whole = whole; logged = fit .logged; taken = fit .taken; counted = fit .counted }
 
 -- ---- tests
 
@@ -239,7 +243,8 @@ module _ {A : Type 0} {m k : M A} {w v : World} (g : Going m w k v) where
   pub ends-with : {a : Answer} {x : A} {u : World} → Ends k v a x u → Ends m w a x u
   ends-with e = record { is = g .is ∙ e .is; fit = e .fit }
 
-  pub goes-to : (k′ : M A) (u : World) → k v ≡ k′ u → Fit u → length (u .store) ≡ length (v .store) → length (u .log) ≡ length (v .log) → Going m w k′ u
+  pub goes-to : (k′ : M A) (u : World) → k v ≡ k′ u → Fit u
+      → length (u .store) ≡ length (v .store) → length (u .log) ≡ length (v .log) → Going m w k′ u
   goes-to k′ u e f s l = record { is = g .is ∙ e; fit = f; store = s ∙ g .store; log = l ∙ g .log }
 
 -- `for i in 0..n`, at i

@@ -15,7 +15,8 @@ use Rattle.usb_types.specs.declared.descriptors.DescriptorKind.the-variants.{In
 use Rattle.usb_store.specs.Access.{write}
 use Rattle.usb_store.proofs.Writes.{length-write}
 use Rattle.usb_model.specs.Programs.{Program, _>>=_, _>>_, return, skip, throw, look, change, when}
-use Rattle.usb_model.specs.Walk.{Walk, MaxInterfaces, MaxEndpoints, InterfaceLength, EndpointLength, interfaceAt, endpointAt, interfaceDescriptor, endpointDescriptor, whole, descriptorOf, descriptor}
+use Rattle.usb_model.specs.Walk.{Walk, MaxInterfaces, MaxEndpoints, InterfaceLength, EndpointLength, interfaceAt, endpointAt}
+use Rattle.usb_model.specs.Walk.{interfaceDescriptor, endpointDescriptor, whole, descriptorOf, descriptor}
 use Rattle.usb_model.proofs.Accepted.{neither}
 use Rattle.usb_walk.specs.declared.Last.{Last}
 use Rattle.usb_walk.specs.declared.Next.{Next}
@@ -84,11 +85,15 @@ module _ (d kept : List ℕ) (last : Last) (ready : Ready kept last) (e : cutOff
       module _ (more : last .endpoint < count) where
         pub seventeenth : MaxEndpoints ≤ last .endpoint → Goes (descriptorOf Endpoint d) d kept last kept (Refused GarbledConfiguration)
         unfolding descriptorOf whole cutOff endpointDescriptor when skip throw look return _>>=_ _>>_
-        seventeenth h = record { is = simp (e, a, ne-eqb (last .interface) MaxInterfaces i, ← is, lt-leb count (last .endpoint) more, le-leb MaxEndpoints (last .endpoint) h); moves = tt }
+        seventeenth h = record {
+          is = simp (e, a, ne-eqb (last .interface) MaxInterfaces i, ← is, lt-leb count (last .endpoint) more, le-leb MaxEndpoints (last .endpoint) h);
+          moves = tt;
+        }
 
         pub endpoint-stored : last .endpoint < MaxEndpoints → (after : List ℕ)
             → after ≡ write kept (endpointAt (last .interface) (last .endpoint)) (take EndpointLength d)
-            → Goes (descriptorOf Endpoint d) d kept last after (On (record { interface = last .interface; endpoint = last .endpoint + 1; «is_alternate» = false }))
+            → Goes (descriptorOf Endpoint d) d kept last after
+            (On (record { interface = last .interface; endpoint = last .endpoint + 1; «is_alternate» = false }))
         unfolding descriptorOf whole cutOff endpointDescriptor when skip throw look change return _>>=_ _>>_
         endpoint-stored h after w = record {
           is = simp (e, a, ne-eqb (last .interface) MaxInterfaces i, ← is, lt-leb count (last .endpoint) more, lt-leb MaxEndpoints (last .endpoint) h, w);

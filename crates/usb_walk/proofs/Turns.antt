@@ -36,7 +36,8 @@ starts (x ∷ d) kept offset n o l = record {
   ready = record { whole = l; interface = omega arith };
 }
 
-pub ends : {d before kept : List ℕ} {offset : ℕ} {last : Last} → Walking d before kept offset last → length d ≤ offset → endsWith Ok kept ≡ walk d before
+pub ends : {d before kept : List ℕ} {offset : ℕ} {last : Last} → Walking d before kept offset last → length d ≤ offset
+    → endsWith Ok kept ≡ walk d before
 unfolding walkFrom skip
 ends {d} w h = rw (drop-of-length-le d h) at (w .is)
 
@@ -54,7 +55,8 @@ first d offset = getD-drop offset d 0 0 ∙ rw add-zero
 abbrev left : List ℕ → ℕ → Bool → Program Walk (Unit {0})
 left d offset more = when more (walkFrom (length d) (drop (getD d offset 0) (drop offset d)))
 
-head : (n : ℕ) (d : List ℕ) (k : Walk) → 0 < length d → walkFrom (suc n) d k ≡ on (descriptor d k) (λ more. when more (walkFrom n (drop (getD d 0 0) d)))
+head : (n : ℕ) (d : List ℕ) (k : Walk) → 0 < length d
+    → walkFrom (suc n) d k ≡ on (descriptor d k) (λ more. when more (walkFrom n (drop (getD d 0 0) d)))
 unfolding walkFrom _>>=_
 head n [] k h = absurd (omega arith)
 head n (x ∷ d) k h = refl

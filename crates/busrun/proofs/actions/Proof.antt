@@ -16,8 +16,23 @@ abbrev μ-loop : tie.MeasureT-loop
 
 loop-again : tie.Need-loop-again Inv-loop μ-loop
 loop-again c =
-    let counted = one-more (c .before .before .before .before .args .log .now) (c .before .before .before .loop .n) (c .before .before .loop-test .taken) (c .if1 .left) in
-    (omega (arith, counted, c .before .before .before .loop .inv .0), omega (arith, c .before .before .loop-test .taken))
+    let turn = c .before .before in
+    let head = turn .before in
+    let counted = one-more (head .before .args .log .now) (head .loop .n) (turn .loop-test .taken) (c .if1 .left) in
+    (omega (arith, counted, head .loop .inv .0), omega (arith, turn .loop-test .taken))
+
+returns : tie.Need-returns Inv-loop μ-loop
+returns c =
+    let turn = c .before .before in
+    let head = turn .before in
+    let none = none-left (head .before .args .log .now) (head .loop .n) (turn .loop-test .taken) (c .if1 .taken) in
+    (omega (arith, none, head .loop .inv .0), head .loop .inv .1)
+
+returns-2 : tie.Need-returns-2 Inv-loop μ-loop
+returns-2 c =
+    let head = c .before in
+    let all = all-counted (head .before .args .log .now) (head .loop .n) (c .loop-test .left) in
+    (omega (arith, all, head .loop .inv .0), head .loop .inv .1)
 
 pub actions-spec : {M : Type 1} → statement M
 actions-spec =
@@ -28,8 +43,8 @@ actions-spec =
     (λ c. (omega arith, omega arith))
     (λ c. omega arith)
     (λ c. omega (arith, c .before .loop-test .taken, c .before .before .before .pre))
-    (λ c. (omega (arith, none-left (c .before .before .before .before .args .log .now) (c .before .before .before .loop .n) (c .before .before .loop-test .taken) (c .if1 .taken), c .before .before .before .loop .inv .0), c .before .before .before .loop .inv .1))
+    returns
     (λ c. omega (arith, c .before .before .loop-test .taken))
     (λ c. omega (arith, c .before .before .loop-test .taken))
     loop-again
-    (λ c. (omega (arith, all-counted (c .before .before .args .log .now) (c .before .loop .n) (c .loop-test .left), c .before .loop .inv .0), c .before .loop .inv .1)))
+    returns-2)

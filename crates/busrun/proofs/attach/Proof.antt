@@ -7,11 +7,17 @@ use Rattle.busrun.proofs.attach.Statement.{statement}
 use Rattle.busrun.proofs.attach.Tie as tie
 
 actions-requires : tie.Need-actions-requires
-actions-requires c κs = c .before .before .before .before .lidrumak-root-attach .kept .1 .1 .1 .0 ∙ log-long (c .before .before .before .before .before .before .before .before .before .before .pre)
+actions-requires c κs =
+    let call = c .before .before .before .before in
+    call .lidrumak-root-attach .kept .1 .1 .1 .0 ∙ log-long (call .before .before .before .before .before .before .pre)
 
 returns : tie.Need-returns
 returns c =
-    (written _ _ _ _ _ _ _ refl (c .before .before .before .before .before .before .before .before .before .before .before .pre) (c .before .before .before .before .before .lidrumak-root-attach .ensures) (c .actions .ensures .0), counts _ _ (omega (arith, c .actions .ensures .1, c .before .before .before .before .before .lidrumak-root-attach .kept .1 .1 .1 .0 ∙ log-long (c .before .before .before .before .before .before .before .before .before .before .before .pre))))
+    let call = c .before .before .before .before .before in
+    let start = call .before .before .before .before .before .before in
+    let long = call .lidrumak-root-attach .kept .1 .1 .1 .0 ∙ log-long (start .pre) in
+    let is = written _ _ _ _ _ _ _ refl (start .pre) (call .lidrumak-root-attach .ensures) (c .actions .ensures .0) in
+    (is, counts _ _ (omega (arith, c .actions .ensures .1, long)))
 
 pub attach-spec : {M : Type 1} → statement M
 attach-spec =

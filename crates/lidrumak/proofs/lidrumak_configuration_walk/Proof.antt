@@ -20,7 +20,8 @@ returns-2 c =
 returns-3 : tie.Need-returns-3
 returns-3 c =
     let n : toZ w32 (ofZ w32 (c .answer-number .result)) ≡ c .answer-number .result = search needs in
-    walked-all _ _ _ (c .before .before .before .before .before .before .if1 .left) (c .before .before .before .before .before .if2 .left) _ _ (c .before .before .before .walk .ensures) (n ∙ c .answer-number .ensures)
+    let walk = c .before .before .before in
+    walked-all _ _ _ (walk .before .before .before .if1 .left) (walk .before .before .if2 .left) _ _ (walk .walk .ensures) (n ∙ c .answer-number .ensures)
 
 pub lidrumak-configuration-walk-spec : {M : Type 1} → statement M
 lidrumak-configuration-walk-spec =

@@ -5,10 +5,10 @@ use denote.Ref.{now}
 use Rattle.usb_device.proofs.Free.{free-most}
 use Rattle.usb_model.specs.Entry.{Lent, noPort, start, portCheck}
 use Rattle.usb_model.specs.Kept.{LentBytes}
-use Rattle.usb_model.proofs.Accepted.{HubAccepted, hub-accepted}
+use Rattle.usb_model.proofs.Accepted.{port-inside, HubAccepted, hub-accepted}
 use Rattle.usb_transfer.specs.Runs.{here}
 use Rattle.usb_entry.specs.Replies.{lent}
-use Rattle.lidrumak.proofs.Entries.{refused-call, accepted-call, accepts, bytes-of, first-world, on-bus, port-inside}
+use Rattle.lidrumak.proofs.Entries.{refused-call, accepted-call, accepts, bytes-of, first-world, on-bus}
 use Rattle.lidrumak.proofs.lidrumak_port_check.Statement.{statement}
 use Rattle.lidrumak.proofs.lidrumak_port_check.Tie as tie
 
@@ -42,9 +42,13 @@ copy-store-requires c κs = (passed (c .before) .lengths, passed (c .before) .is
 abbrev back : tie.After-begin → tie.After-enum-told
 back c = c .before .before .before .before .before .before .before
 
+abbrev copied : tie.After-begin → tie.After-copy-store
+copied c = c .before .before .before .before .before
+
 -- the driver starts in the model's first world
-first : (c : tie.After-begin) → here (c .before .before .before .before .before .copy-store .last .0) (lends (back c) .log) (lends (back c) .outcomes) (c .begin .result) ≡ start (lends (back c))
-first c = first-world (lends (back c)) (c .before .before .before .before .before .copy-store .ensures) (c .begin .ensures)
+first : (c : tie.After-begin)
+    → here (copied c .copy-store .last .0) (lends (back c) .log) (lends (back c) .outcomes) (c .begin .result) ≡ start (lends (back c))
+first c = first-world (lends (back c)) (copied c .copy-store .ensures) (c .begin .ensures)
 
 hub-check-connection-requires : tie.Need-hub-check-connection-requires
 hub-check-connection-requires c κs =
@@ -55,7 +59,9 @@ returns-2 : tie.Need-returns-2
 unfolding portCheck
 returns-2 c =
     let b = c .before .before .before .before .before .before in
-    accepted-call _ _ _ (back b .before .before .port-verdict .ensures _ _ _ refl) (back b .enum-told .given .1) (first b) _ (c .before .before .before .before .before .hub-check-connection .ensures 32 (free-most _)) _ (c .report .ensures)
+    let told = back b in
+    let run = c .before .before .before .before .before .hub-check-connection .ensures 32 (free-most _) in
+    accepted-call _ _ _ (told .before .before .port-verdict .ensures _ _ _ refl) (told .enum-told .given .1) (first b) _ run _ (c .report .ensures)
 
 pub lidrumak-port-check-spec : {M : Type 1} → statement M
 lidrumak-port-check-spec =

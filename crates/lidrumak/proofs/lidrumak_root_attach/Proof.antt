@@ -42,9 +42,13 @@ copy-store-requires c κs = (passed (c .before) .lengths, passed (c .before) .is
 abbrev back : tie.After-begin → tie.After-enum-told
 back c = c .before .before .before .before .before .before .before
 
+abbrev copied : tie.After-begin → tie.After-copy-store
+copied c = c .before .before .before .before .before
+
 -- the driver starts in the model's first world
-first : (c : tie.After-begin) → here (c .before .before .before .before .before .copy-store .last .0) (lends (back c) .log) (lends (back c) .outcomes) (c .begin .result) ≡ start (lends (back c))
-first c = first-world (lends (back c)) (c .before .before .before .before .before .copy-store .ensures) (c .begin .ensures)
+first : (c : tie.After-begin)
+    → here (copied c .copy-store .last .0) (lends (back c) .log) (lends (back c) .outcomes) (c .begin .result) ≡ start (lends (back c))
+first c = first-world (lends (back c)) (copied c .copy-store .ensures) (c .begin .ensures)
 
 cast-speed : tie.Need-cast-usb-attach-root-hub
 cast-speed c = omega (arith, passed (back c) .low)
@@ -58,7 +62,9 @@ returns-2 : tie.Need-returns-2
 unfolding rootAttach
 returns-2 c =
     let b = c .before .before .before .before .before .before in
-    accepted-call _ _ _ (back b .before .before .root-verdict .ensures _ _ _ refl) (back b .enum-told .given .1) (first b) _ (c .before .before .before .before .before .usb-attach-root-hub .ensures) _ (c .report .ensures)
+    let told = back b in
+    let run = c .before .before .before .before .before .usb-attach-root-hub .ensures in
+    accepted-call _ _ _ (told .before .before .root-verdict .ensures _ _ _ refl) (told .enum-told .given .1) (first b) _ run _ (c .report .ensures)
 
 pub lidrumak-root-attach-spec : {M : Type 1} → statement M
 lidrumak-root-attach-spec =

@@ -44,9 +44,13 @@ copy-store-requires c κs = (passed (c .before) .lengths, passed (c .before) .is
 abbrev back : tie.After-begin → tie.After-enum-told
 back c = c .before .before .before .before .before .before .before
 
+abbrev copied : tie.After-begin → tie.After-copy-store
+copied c = c .before .before .before .before .before
+
 -- the driver starts in the model's first world
-first : (c : tie.After-begin) → here (c .before .before .before .before .before .copy-store .last .0) (lends (back c) .log) (lends (back c) .outcomes) (c .begin .result) ≡ start (lends (back c))
-first c = first-world (lends (back c)) (c .before .before .before .before .before .copy-store .ensures) (c .begin .ensures)
+first : (c : tie.After-begin)
+    → here (copied c .copy-store .last .0) (lends (back c) .log) (lends (back c) .outcomes) (c .begin .result) ≡ start (lends (back c))
+first c = first-world (lends (back c)) (copied c .copy-store .ensures) (c .begin .ensures)
 
 hub-check-for-change-requires : tie.Need-hub-check-for-change-requires
 hub-check-for-change-requires c κs =
@@ -57,7 +61,9 @@ returns-2 : tie.Need-returns-2
 unfolding scan
 returns-2 c =
     let b = c .before .before .before .before .before .before in
-    accepted-call _ _ _ (back b .before .before .hub-verdict .ensures _ _ _ refl) (back b .enum-told .given .1) (first b) _ (c .before .before .before .before .before .hub-check-for-change .ensures 32 32 (free-most _) (omega arith)) _ (c .report .ensures)
+    let told = back b in
+    let run = c .before .before .before .before .before .hub-check-for-change .ensures 32 32 (free-most _) (omega arith) in
+    accepted-call _ _ _ (told .before .before .hub-verdict .ensures _ _ _ refl) (told .enum-told .given .1) (first b) _ run _ (c .report .ensures)
 
 pub lidrumak-scan-spec : {M : Type 1} → statement M
 lidrumak-scan-spec =

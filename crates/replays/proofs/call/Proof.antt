@@ -6,27 +6,42 @@ use Rattle.replays.proofs.call.Statement.{statement}
 use Rattle.replays.proofs.call.Tie as tie
 
 returns : tie.Need-returns
-returns c = c .before .before .before .before .lidrumak-root-attach .ensures ∙ sym (entry-0 _ _ _ _ (c .before .before .before .before .before .before .before .match .keys1))
+returns c =
+    let call = c .before .before .before .before in
+    call .lidrumak-root-attach .ensures ∙ sym (entry-0 _ _ _ _ (call .before .before .before .match .keys1))
 
 returns-2 : tie.Need-returns-2
-returns-2 c = c .before .before .before .before .lidrumak-scan .ensures ∙ sym (entry-1 _ _ _ _ (c .before .before .before .before .before .before .before .match .keys2))
+returns-2 c =
+    let call = c .before .before .before .before in
+    call .lidrumak-scan .ensures ∙ sym (entry-1 _ _ _ _ (call .before .before .before .match .keys2))
 
 returns-3 : tie.Need-returns-3
-returns-3 c = c .before .before .before .before .lidrumak-port-check .ensures ∙ sym (entry-2 _ _ _ _ (c .before .before .before .before .before .before .before .match .keys3))
+returns-3 c =
+    let call = c .before .before .before .before in
+    call .lidrumak-port-check .ensures ∙ sym (entry-2 _ _ _ _ (call .before .before .before .match .keys3))
 
 returns-4 : tie.Need-returns-4
-returns-4 c = c .before .before .before .before .lidrumak-child-reset .ensures ∙ sym (entry-3 _ _ _ _ (c .before .before .before .before .before .before .before .match .keys4))
+returns-4 c =
+    let call = c .before .before .before .before in
+    call .lidrumak-child-reset .ensures ∙ sym (entry-3 _ _ _ _ (call .before .before .before .match .keys4))
 
 returns-5 : tie.Need-returns-5
-returns-5 c = c .before .before .before .before .lidrumak-child-check .ensures ∙ sym (entry-4 _ _ _ _ (c .before .before .before .before .before .before .before .match .keys5))
+returns-5 c =
+    let call = c .before .before .before .before in
+    call .lidrumak-child-check .ensures ∙ sym (entry-4 _ _ _ _ (call .before .before .before .match .keys5))
 
 returns-6 : tie.Need-returns-6
-returns-6 c = c .before .before .before .before .lidrumak-retried-reset .ensures ∙ sym (entry-5 _ _ _ _ (c .before .before .before .before .before .before .before .match .keys6))
+returns-6 c =
+    let call = c .before .before .before .before in
+    call .lidrumak-retried-reset .ensures ∙ sym (entry-5 _ _ _ _ (call .before .before .before .match .keys6))
 
 returns-7 : tie.Need-returns-7
 returns-7 c =
-    let others = c .before .before .before .before .before .before .before .match .rest in
-    c .before .before .before .before .lidrumak-connection-change .ensures ∙ sym (entry-6 _ _ _ _ (others .0 .0 .0 .0 .0 .1) (others .0 .0 .0 .0 .1) (others .0 .0 .0 .1) (others .0 .0 .1) (others .0 .1) (others .1))
+    let call = c .before .before .before .before in
+    let others = call .before .before .before .match .rest in
+    let low = others .0 .0 .0 in
+    call .lidrumak-connection-change .ensures
+    ∙ sym (entry-6 _ _ _ _ (low .0 .0 .1) (low .0 .1) (low .1) (others .0 .0 .1) (others .0 .1) (others .1))
 
 pub call-spec : {M : Type 1} → statement M
 call-spec =

@@ -9,13 +9,19 @@ use Rattle.replays.proofs.run_walk.Statement.{statement}
 use Rattle.replays.proofs.run_walk.Tie as tie
 
 returns : tie.Need-returns
-returns c = walk-other-answer _ _ (bits-other (c .if1 .taken)) ∙ ap (walkAgrees _) (walked-by _ _ _ _ _ (c .before .before .before .before .before .before .before .before .before .pre) (c .before .before .before .before .before .lidrumak-configuration-walk .ensures))
+returns c =
+    let walk = c .before .before .before .before .before in
+    let is = walked-by _ _ _ _ _ (walk .before .before .before .before .pre) (walk .lidrumak-configuration-walk .ensures) in
+    walk-other-answer _ _ (bits-other (c .if1 .taken)) ∙ ap (walkAgrees _) is
 
 returns-2 : tie.Need-returns-2
 returns-2 c =
-    let x : toZ w32 (ofZ w32 (c .before .before .before .before .before .before .before .before .lidrumak-configuration-walk .result)) ≡ c .before .before .before .before .before .before .before .before .lidrumak-configuration-walk .result = search needs in
-    let y : toZ w32 (ofZ w32 (c .before .before .before .before .before .before .before .before .before .before .before .before .args .recorded .answer)) ≡ c .before .before .before .before .before .before .before .before .before .before .before .before .args .recorded .answer = search needs in
-    walk-by-record _ _ (bits-same x y (c .before .before .before .if1 .left)) _ (c .before .adler .ensures) ∙ ap (walkAgrees _) (walked-by _ _ _ _ _ (c .before .before .before .before .before .before .before .before .before .before .before .before .pre) (c .before .before .before .before .before .before .before .before .lidrumak-configuration-walk .ensures))
+    let walk = c .before .before .before .before .before .before .before .before in
+    let start = walk .before .before .before .before in
+    let x : toZ w32 (ofZ w32 (walk .lidrumak-configuration-walk .result)) ≡ walk .lidrumak-configuration-walk .result = search needs in
+    let y : toZ w32 (ofZ w32 (start .args .recorded .answer)) ≡ start .args .recorded .answer = search needs in
+    let is = walked-by _ _ _ _ _ (start .pre) (walk .lidrumak-configuration-walk .ensures) in
+    walk-by-record _ _ (bits-same x y (c .before .before .before .if1 .left)) _ (c .before .adler .ensures) ∙ ap (walkAgrees _) is
 
 pub run-walk-spec : {M : Type 1} → statement M
 run-walk-spec =

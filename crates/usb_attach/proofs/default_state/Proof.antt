@@ -9,7 +9,8 @@ returns : tie.Need-returns
 unfolding defaultState
 returns c =
     let read = c .before .before .before .before .before in
-    put-then _ _ _ _ (read .before .before .before .before .before .set-byte .ensures) (next-ended _ _ (read .usb-read-device-descriptor .ensures) (not-ok _ (c .match .keys2)))
+    put-then _ _ _ _ (read .before .before .before .before .before .set-byte .ensures)
+    (next-ended _ _ (read .usb-read-device-descriptor .ensures) (not-ok _ (c .match .keys2)))
 
 returns-2 : tie.Need-returns-2
 unfolding defaultState
@@ -18,7 +19,8 @@ returns-2 c =
     let read = told .before .before .before .before .before .before in
     let described = rw (told .enum-told .given .1) at (read .usb-read-device-descriptor .ensures) in
     rw (told .enum-told .given .1)
-    (put-then _ _ _ _ (read .before .before .before .before .before .set-byte .ensures) (next described (put-last _ _ _ _ (c .before .before .set-byte2 .ensures) (described .fit))))
+    (put-then _ _ _ _ (read .before .before .before .before .before .set-byte .ensures)
+    (next described (put-last _ _ _ _ (c .before .before .set-byte2 .ensures) (described .fit))))
 
 pub default-state-spec : {M : Type 1} → statement M
 default-state-spec =

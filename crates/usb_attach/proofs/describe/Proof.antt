@@ -13,7 +13,8 @@ returns-2 : tie.Need-returns-2
 unfolding described
 returns-2 c =
     let told = c .before .before .before .before .before .before .before .before in
-    next (rw (told .enum-told .given .1) at (told .before .before .before .before .before .before .usb-read-device-descriptor .ensures)) (c .before .before .before .before .usb-configure .ensures)
+    next (rw (told .enum-told .given .1) at (told .before .before .before .before .before .before .usb-read-device-descriptor .ensures))
+    (c .before .before .before .before .usb-configure .ensures)
 
 pub describe-spec : {M : Type 1} → statement M
 describe-spec =

@@ -17,12 +17,14 @@ returns-2 c =
     let told = c .before .before .before .before .before .before .before .before .before in
     let first = told .before .before .before .before .before .before in
     got-as _ _ _ (first .before .before .before .byte-at .ensures)
-    (next (rw (told .enum-told .given .1) at (first .default-state .ensures)) (next-ended _ _ (c .before .before .before .before .before .set-number .ensures) (not-ok _ (c .match2 .keys2))))
+    (next (rw (told .enum-told .given .1) at (first .default-state .ensures))
+    (next-ended _ _ (c .before .before .before .before .before .set-number .ensures) (not-ok _ (c .match2 .keys2))))
 
 describe-requires : tie.Need-describe-requires
 describe-requires c κs =
     let second = c .before .before .before .before .before .before .before .before .before in
-    (second .set-number .ensures .fit, second .before .before .before .before .before .before .before .before .before .before .before .before .before .before .before .before .before .before .pre .1)
+    let first = second .before .before .before .before .before .before .before .before .before .before in
+    (second .set-number .ensures .fit, first .before .before .before .before .before .before .before .before .pre .1)
 
 returns-3 : tie.Need-returns-3
 unfolding enumerated

@@ -8,13 +8,15 @@ use Rattle.usb_attach.proofs.set_number.Tie as tie
 returns : tie.Need-returns
 unfolding addressed NotOk
 returns c =
-    rw (c .enum-told .given .1) (bound-ended _ _ (attempt-stopped (c .before .before .before .before .before .before .usb-set-address .ensures) _ (c .enum-told .given .1)) tt)
+    let call = c .before .before .before .before .before .before in
+    rw (c .enum-told .given .1) (bound-ended _ _ (attempt-stopped (call .usb-set-address .ensures) _ (c .enum-told .given .1)) tt)
 
 returns-2 : tie.Need-returns-2
 unfolding addressed
 returns-2 c =
     let set = c .before .before .set-byte .ensures in
-    let step = attempted (c .before .before .before .before .before .before .before .before .before .usb-set-address .ensures) (not-stop _ (c .before .before .before .before .match .keys2)) in
+    let call = c .before .before .before .before .before .before .before .before .before in
+    let step = attempted (call .usb-set-address .ensures) (not-stop _ (c .before .before .before .before .match .keys2)) in
     bound _ step (put-then _ _ _ _ set (succeeded _ (put-bytes-fit _ _ _ _ set (step .fit))))
 
 pub set-number-spec : {M : Type 1} → statement M

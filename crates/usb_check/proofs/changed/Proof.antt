@@ -19,7 +19,8 @@ returns-2 c = simp (sym (c .before .before .has .ensures) ∙ c .before .if1 .le
 returns-3 : tie.Need-returns-3
 unfolding bit
 returns-3 c =
-    root-changed _ _ _ (c .before .before .if2 .left) (sym (c .before .before .before .before .has .ensures) ∙ c .before .before .before .if1 .left) _ _ (c .before .has2 .ensures) (c .has3 .ensures)
+    let same = sym (c .before .before .before .before .has .ensures) ∙ c .before .before .before .if1 .left in
+    root-changed _ _ _ (c .before .before .if2 .left) same _ _ (c .before .has2 .ensures) (c .has3 .ensures)
 
 pub changed-spec : {M : Type 1} → statement M
 changed-spec =

@@ -7,7 +7,9 @@ use Rattle.usb_check.proofs.clear_if.Tie as tie
 
 returns : tie.Need-returns
 unfolding clearIf
-returns c = done-if (c .before .before .before .before .before .before .before .if1 .taken) (c .before .before .before .before .hub-change-port-feature .ensures)
+returns c =
+    let call = c .before .before .before .before in
+    done-if (call .before .before .before .if1 .taken) (call .hub-change-port-feature .ensures)
 
 returns-2 : tie.Need-returns-2
 unfolding clearIf

@@ -13,17 +13,25 @@ returns c = simp (sym (c .before .has .ensures) ∙ not-true _ (c .if1 .taken))
 
 returns-2 : tie.Need-returns-2
 unfolding isDropped bit
-returns-2 c = simp (sym (c .before .before .before .has .ensures) ∙ not-false _ (c .before .before .if1 .left), sym (c .before .has2 .ensures) ∙ c .if2 .taken)
+returns-2 c =
+    let change = sym (c .before .before .before .has .ensures) ∙ not-false _ (c .before .before .if1 .left) in
+    simp (change, sym (c .before .has2 .ensures) ∙ c .if2 .taken)
 
 returns-3 : tie.Need-returns-3
 unfolding isDropped bit
 returns-3 c =
-    simp (sym (c .before .before .before .before .before .has .ensures) ∙ not-false _ (c .before .before .before .before .if1 .left), sym (c .before .before .before .has2 .ensures) ∙ c .before .before .if2 .left, sym (c .before .has3 .ensures) ∙ not-true _ (c .if3 .taken))
+    let enabled = c .before .before in
+    let change = sym (enabled .before .before .before .has .ensures) ∙ not-false _ (enabled .before .before .if1 .left) in
+    let disabled = sym (enabled .before .has2 .ensures) ∙ enabled .if2 .left in
+    simp (change, disabled, sym (c .before .has3 .ensures) ∙ not-true _ (c .if3 .taken))
 
 returns-4 : tie.Need-returns-4
 unfolding isDropped bit
 returns-4 c =
-    simp (sym (c .before .before .before .before .before .before .has .ensures) ∙ not-false _ (c .before .before .before .before .before .if1 .left), sym (c .before .before .before .before .has2 .ensures) ∙ c .before .before .before .if2 .left, sym (c .before .before .has3 .ensures) ∙ not-false _ (c .before .if3 .left), c .child-of .ensures)
+    let enabled = c .before .before .before in
+    let change = sym (enabled .before .before .before .has .ensures) ∙ not-false _ (enabled .before .before .if1 .left) in
+    let disabled = sym (enabled .before .has2 .ensures) ∙ enabled .if2 .left in
+    simp (change, disabled, sym (c .before .before .has3 .ensures) ∙ not-false _ (c .before .if3 .left), c .child-of .ensures)
 
 pub dropped-spec : {M : Type 1} → statement M
 dropped-spec =

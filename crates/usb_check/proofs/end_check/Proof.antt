@@ -8,13 +8,18 @@ use Rattle.usb_check.proofs.end_check.Tie as tie
 
 returns : tie.Need-returns
 unfolding endCheck bit
-returns c = next-ended _ _ (rw (c .before .before .before .before .before .before .before .before .has .ensures) at (c .before .before .before .before .before .clear-if .ensures)) (not-ok _ (c .match .keys2))
+returns c =
+    let call = c .before .before .before .before .before in
+    next-ended _ _ (rw (call .before .before .before .has .ensures) at (call .clear-if .ensures)) (not-ok _ (c .match .keys2))
 
 returns-2 : tie.Need-returns-2
 unfolding endCheck bit
 returns-2 c =
-    let resumed = rw (c .before .before .before .before .before .before .before .before .before .enum-told .given .1, c .before .before .before .before .before .before .before .before .before .before .before .before .before .before .before .before .before .before .has .ensures) at (c .before .before .before .before .before .before .before .before .before .before .before .before .before .before .before .clear-if .ensures) in
-    next resumed (rw (c .before .before .before .before .before .before .before .has2 .ensures) at (c .before .before .before .before .clear-if2 .ensures))
+    let last = c .before .before .before .before in
+    let ok = last .before .before .before .before .before in
+    let call = ok .before .before .before .before .before .before in
+    let resumed = rw (ok .enum-told .given .1, call .before .before .before .has .ensures) at (call .clear-if .ensures) in
+    next resumed (rw (last .before .before .before .has2 .ensures) at (last .clear-if2 .ensures))
 
 pub end-check-spec : {M : Type 1} → statement M
 end-check-spec =

@@ -12,12 +12,15 @@ returns c = has-child _ _ (rw (c .before .child-of .ensures) at (c .if1 .taken))
 returns-2 : tie.Need-returns-2
 unfolding bit
 returns-2 c =
-    connected _ _ (rw (c .before .before .before .before .child-of .ensures) at (c .before .before .before .if1 .left)) (rw (c .before .before .status-of .ensures) at (sym (c .before .has .ensures) ∙ c .if2 .taken))
+    let none = rw (c .before .before .before .before .child-of .ensures) at (c .before .before .before .if1 .left) in
+    connected _ _ none (rw (c .before .before .status-of .ensures) at (sym (c .before .has .ensures) ∙ c .if2 .taken))
 
 returns-3 : tie.Need-returns-3
 unfolding bit
 returns-3 c =
-    disconnected _ _ (rw (c .before .before .before .before .before .child-of .ensures) at (c .before .before .before .before .if1 .left)) (rw (c .before .before .before .status-of .ensures) at (sym (c .before .before .has .ensures) ∙ c .before .if2 .left)) _ (rw (c .before .before .before .status-of .ensures) at (c .has2 .ensures))
+    let none = rw (c .before .before .before .before .before .child-of .ensures) at (c .before .before .before .before .if1 .left) in
+    let status = c .before .before .before .status-of .ensures in
+    disconnected _ _ none (rw status at (sym (c .before .before .has .ensures) ∙ c .before .if2 .left)) _ (rw status at (c .has2 .ensures))
 
 pub no-new-device-spec : {M : Type 1} → statement M
 no-new-device-spec =

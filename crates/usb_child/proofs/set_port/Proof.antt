@@ -6,7 +6,11 @@ use Rattle.usb_child.proofs.set_port.Tie as tie
 
 returns : tie.Need-returns
 returns c =
-    port-set _ _ _ _ _ _ _ _ _ (c .before .before .before .before .before .before .before .before .before .before .before .before .before .port-status .ensures) (c .before .before .before .before .before .before .before .before .before .before .before .before .speed-of .ensures) (c .before .before .before .before .before .before .before .before .before .before .set-byte .ensures) (c .before .before .before .before .before .before .set-byte2 .ensures) (c .before .before .set-byte3 .ensures)
+    let speed = c .before .before .before .before .before .before .before .before .before .before in
+    let read = speed .before .before in
+    let parent = c .before .before .before .before .before .before .set-byte2 .ensures in
+    let number = c .before .before .set-byte3 .ensures in
+    port-set _ _ _ _ _ _ _ _ _ (read .before .port-status .ensures) (read .speed-of .ensures) (speed .set-byte .ensures) parent number
 
 pub set-port-spec : {M : Type 1} → statement M
 set-port-spec =

@@ -7,17 +7,23 @@ use Rattle.usb_child_reset.proofs.hub_child_reset.Tie as tie
 
 hub-port-reset2-requires : tie.Need-hub-port-reset2-requires
 hub-port-reset2-requires c κs =
-    (search needs, search needs, rw (c .before .before .before .found .given .1) at (c .before .before .before .before .before .port-of-child .ensures .port))
+    let found = c .before .before .before in
+    (search needs, search needs, rw (found .found .given .1) at (found .before .before .port-of-child .ensures .port))
 
 returns : tie.Need-returns
 unfolding hubChildReset NotOk
 returns c =
-    bound-ended _ _ (rw (c .enum-told .given .1) at (c .before .before .port-of-child .ensures .ends _ _ _ (c .before .before .before .before .before .before .before .pre .0))) tt
+    let call = c .before .before in
+    let ends = call .port-of-child .ensures .ends _ _ _ (call .before .before .before .before .before .pre .0) in
+    bound-ended _ _ (rw (c .enum-told .given .1) at ends) tt
 
 returns-2 : tie.Need-returns-2
 unfolding hubChildReset
 returns-2 c =
-    bound _ (rw (c .before .before .before .before .before .before .before .before .found .given .1) at (c .before .before .before .before .before .before .before .before .before .before .port-of-child .ensures .ends _ _ _ (c .before .before .before .before .before .before .before .before .before .before .before .before .before .before .before .pre .0))) (c .before .before .before .before .hub-port-reset2 .ensures)
+    let found = c .before .before .before .before .before .before .before .before in
+    let call = found .before .before in
+    let ends = call .port-of-child .ensures .ends _ _ _ (call .before .before .before .before .before .pre .0) in
+    bound _ (rw (found .found .given .1) at ends) (c .before .before .before .before .hub-port-reset2 .ensures)
 
 pub hub-child-reset-spec : {M : Type 1} → statement M
 hub-child-reset-spec =

@@ -20,7 +20,8 @@ returns-2 c =
     let told = value .before .before in
     let walk = told .before .before .before .before in
     let start = walk .before .before .before .before .before .before in
-    next (rw (told .enum-told .given .1) at (walk .walk-full .ensures _ _ _ (start .pre .0))) (got-as _ _ _ (value .byte-at .ensures) (last .usb-set-configure .ensures))
+    next (rw (told .enum-told .given .1) at (walk .walk-full .ensures _ _ _ (start .pre .0)))
+    (got-as _ _ _ (value .byte-at .ensures) (last .usb-set-configure .ensures))
 
 pub configure-with-spec : {M : Type 1} → statement M
 configure-with-spec =

@@ -11,15 +11,19 @@ use Rattle.usb_configure.proofs.usb_configure.Tie as tie
 returns : tie.Need-returns
 unfolding inParts
 returns c =
-    in-parts _ _ (got-as _ _ _ (c .before .byte-at .ensures) (thrown _ _ _ (ap not (ne-eqb _ _ (c .if1 .taken))) (c .before .before .before .before .before .before .pre .0)))
+    let start = c .before .before .before .before .before .before in
+    in-parts _ _
+    (got-as _ _ _ (c .before .byte-at .ensures) (thrown _ _ _ (ap not (ne-eqb _ _ (c .if1 .taken))) (start .pre .0)))
 
 returns-2 : tie.Need-returns-2
 unfolding inParts
 returns-2 c =
-    let test = c .before .before .before .before .before .before .before .before .before in
+    let head = c .before .before .before .before .before .before in
+    let test = head .before .before .before in
     in-parts _ _
     (got-as _ _ _ (test .before .byte-at .ensures)
-    (unless _ (ap not (eq-eqb _ _ (test .if1 .left))) (next-ended _ _ (c .before .before .before .before .before .before .read-configuration .ensures .ends) (not-ok _ (c .match .keys2)))))
+    (unless _ (ap not (eq-eqb _ _ (test .if1 .left)))
+    (next-ended _ _ (head .read-configuration .ensures .ends) (not-ok _ (c .match .keys2)))))
 
 returns-3 : tie.Need-returns-3
 unfolding inParts
@@ -32,7 +36,8 @@ returns-3 c =
     in-parts _ _
     (got-as _ _ _ (test .before .byte-at .ensures)
     (unless _ (ap not (eq-eqb _ _ (test .if1 .left)))
-    (next (rw (told .enum-told .given .1) at (head .read-configuration .ensures .ends)) (got-number-as _ _ _ _ (total .u16-at .ensures) (last .configure-full .ensures)))))
+    (next (rw (told .enum-told .given .1) at (head .read-configuration .ensures .ends))
+    (got-number-as _ _ _ _ (total .u16-at .ensures) (last .configure-full .ensures)))))
 
 pub usb-configure-spec : {M : Type 1} → statement M
 usb-configure-spec =

@@ -17,23 +17,29 @@ returns c =
 returns-2 : tie.Need-returns-2
 unfolding usbSetConfigure
 returns-2 c =
-    let request = c .before .before .before .before .before .before .before .before .before in
+    let transfer = c .before .before .before .before .before .before in
+    let request = transfer .before .before .before in
     let test = request .before in
-    let sent = rw (request .device-request .ensures) at (c .before .before .before .before .before .before .control .ensures .ends) in
-    got-as _ _ _ (test .before .byte-at .ensures) (unless _ (ap not (eq-eqb _ _ (test .if1 .left))) (next-ended _ _ sent (not-ok _ (c .match .keys2))))
+    let sent = rw (request .device-request .ensures) at (transfer .control .ensures .ends) in
+    got-as _ _ _ (test .before .byte-at .ensures)
+    (unless _ (ap not (eq-eqb _ _ (test .if1 .left))) (next-ended _ _ sent (not-ok _ (c .match .keys2))))
 
 set-byte-requires-2 : tie.Need-set-byte-requires-2
 set-byte-requires-2 c κs =
-    let start = c .before .before .before .before .before .before .before .before .before .before .before .before .before .before .before .before .before .before .before .before .before .before in
+    let told = c .before .before .before .before .before in
+    let transfer = told .before .before .before .before .before .before .before in
+    let test = transfer .before .before .before .before in
+    let start = test .before .before .before .before .before .before in
     record { whole = search needs; inside = start .pre .1; room = search needs }
 
 returns-3 : tie.Need-returns-3
 unfolding usbSetConfigure
 returns-3 c =
     let told = c .before .before .before .before .before .before .before .before in
-    let request = told .before .before .before .before .before .before .before .before .before .before in
+    let transfer = told .before .before .before .before .before .before .before in
+    let request = transfer .before .before .before in
     let test = request .before in
-    let sent = rw (told .enum-told .given .1, request .device-request .ensures) at (told .before .before .before .before .before .before .before .control .ensures .ends) in
+    let sent = rw (told .enum-told .given .1, request .device-request .ensures) at (transfer .control .ensures .ends) in
     let first = c .before .before .before .before .before .before .set-byte .ensures in
     rw (told .enum-told .given .1)
     (got-as _ _ _ (test .before .byte-at .ensures)

@@ -8,7 +8,8 @@ returns : tie.Need-returns
 returns c = λ l o at f.
     let walked = c .before .before in
     let numbered = walked .before .before .before .before in
-    walked-part _ _ _ _ _ _ _ _ _ _ (numbered .set-byte .ensures) f (numbered .before .before .before .before .pre .1) (walked .walk .kept .1 .0) (walked .walk .ensures)
+    walked-part _ _ _ _ _ _ _ _ _ _ (numbered .set-byte .ensures) f (numbered .before .before .before .before .pre .1)
+    (walked .walk .kept .1 .0) (walked .walk .ensures)
 
 pub walk-full-spec : {M : Type 1} → statement M
 walk-full-spec =

@@ -6,8 +6,9 @@ use Rattle.usb_enumerate.proofs.usb_allocate_device.Tie as tie
 
 returns : tie.Need-returns
 returns c =
-    let first = c .before .before .before .before .before .first-unused in
-    ((λ l o at f. allocated _ _ _ _ _ (first .ensures .0) f (c .before .before .before .before .if1 .taken) _ (c .before .before .put-new-device .ensures)), first .ensures .1)
+    let test = c .before .before .before .before in
+    let first = test .before .first-unused in
+    ((λ l o at f. allocated _ _ _ _ _ (first .ensures .0) f (test .if1 .taken) _ (c .before .before .put-new-device .ensures)), first .ensures .1)
 
 returns-2 : tie.Need-returns-2
 returns-2 c =

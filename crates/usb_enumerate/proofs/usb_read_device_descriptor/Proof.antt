@@ -16,7 +16,8 @@ returns c =
     let sized = read .before .before .before .before .before .before in
     let size = rw (sized .before .first-size .ensures) at (sized .set-byte .ensures) in
     let speed = sized .before .before .before .byte-at .ensures in
-    got-as _ _ _ speed (put-then _ _ _ _ size (taken-if _ (eq-eqb _ _ (read .before .before .before .if1 .taken)) (dropped (read .read-device-descriptor .ensures .ends))))
+    got-as _ _ _ speed (put-then _ _ _ _ size
+    (taken-if _ (eq-eqb _ _ (read .before .before .before .if1 .taken)) (dropped (read .read-device-descriptor .ensures .ends))))
 
 returns-2 : tie.Need-returns-2
 unfolding usbReadDeviceDescriptor firstSize
@@ -27,7 +28,8 @@ returns-2 c =
     let speed = sized .before .before .before .byte-at .ensures in
     got-as _ _ _ speed
     (put-then _ _ _ _ size
-    (taken-else _ (ne-eqb _ _ (read .before .before .before .if1 .left)) (bound-ended _ _ (read .read-device-descriptor2 .ensures .ends) (not-ok _ (c .match .keys2)))))
+    (taken-else _ (ne-eqb _ _ (read .before .before .before .if1 .left))
+    (bound-ended _ _ (read .read-device-descriptor2 .ensures .ends) (not-ok _ (c .match .keys2)))))
 
 returns-3 : tie.Need-returns-3
 unfolding usbReadDeviceDescriptor firstSize
@@ -41,20 +43,27 @@ returns-3 c =
     rw (told .enum-told .given .1)
     (got-as _ _ _ speed
     (put-then _ _ _ _ size
-    (taken-else _ (ne-eqb _ _ (read .before .before .before .if1 .left)) (bound _ first (done-unless _ (ap not (eq-eqb _ _ (c .if2 .taken))) (first .fit))))))
+    (taken-else _ (ne-eqb _ _ (read .before .before .before .if1 .left))
+    (bound _ first (done-unless _ (ap not (eq-eqb _ _ (c .if2 .taken))) (first .fit))))))
+
+-- ---- the places, from the test of the length to the first read and to the packet size
+
+abbrev first : tie.Else2 → tie.After-read-device-descriptor2
+first c = c .before .before .before .before .before .before .before .before .before
+
+abbrev sized : tie.Else2 → tie.After-set-byte
+sized c = first c .before .before .before .before .before .before
 
 read-device-descriptor-requires-3 : tie.Need-read-device-descriptor-requires-3
 read-device-descriptor-requires-3 c κs =
-    let read = c .before .before .before .before .before .before .before .before .before .before .before .before in
-    let start = read .before .before .before .before .before .before .before .before .before .before .before .before .before .before in
-    (read .read-device-descriptor2 .ensures .ends .fit, start .pre .1)
+    let test = c .before .before .before in
+    (first test .read-device-descriptor2 .ensures .ends .fit, sized test .before .before .before .before .before .before .before .before .pre .1)
 
 same-length-7 : tie.Need-same-length-7
 same-length-7 c =
     let second = c .before .before .before .before .before in
-    let first = second .before .before .before .before .before .before .before .before .before .before .before .before .before in
-    let sized = first .before .before .before .before .before .before in
-    second .read-device-descriptor3 .kept .0 ∙ first .read-device-descriptor2 .kept .0 ∙ sized .set-byte .kept .0
+    let test = second .before .before .before .before in
+    second .read-device-descriptor3 .kept .0 ∙ first test .read-device-descriptor2 .kept .0 ∙ sized test .set-byte .kept .0
 
 returns-4 : tie.Need-returns-4
 unfolding usbReadDeviceDescriptor firstSize

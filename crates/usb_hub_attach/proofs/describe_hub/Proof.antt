@@ -24,7 +24,8 @@ returns-2 c =
     (put-then _ _ _ _ (most .before .before .before .before .set-byte .ensures)
     (put-then _ _ _ _ (most .set-byte2 .ensures)
     (next described
-    (got-as _ _ _ (c .before .before .before .before .before .byte-at .ensures) (put-last _ _ _ _ (rw (c .before .before .before .ports-of .ensures) at (c .before .before .set-byte3 .ensures)) (described .fit))))))
+    (got-as _ _ _ (c .before .before .before .before .before .byte-at .ensures)
+    (put-last _ _ _ _ (rw (c .before .before .before .ports-of .ensures) at (c .before .before .set-byte3 .ensures)) (described .fit))))))
 
 pub describe-hub-spec : {M : Type 1} → statement M
 describe-hub-spec =

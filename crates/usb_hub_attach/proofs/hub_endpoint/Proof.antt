@@ -12,12 +12,14 @@ returns c = simp (ne-eqb _ _ (rw (c .before .byte-at .ensures) at (c .if1 .taken
 returns-2 : tie.Need-returns-2
 unfolding hubEndpoint
 returns-2 c =
-    simp (eq-eqb _ _ (rw (c .before .before .before .byte-at .ensures) at (c .before .before .if1 .left)), lt-ltb _ _ (rw (c .before .byte-at2 .ensures) at (c .if2 .taken)))
+    let one = eq-eqb _ _ (rw (c .before .before .before .byte-at .ensures) at (c .before .before .if1 .left)) in
+    simp (one, lt-ltb _ _ (rw (c .before .byte-at2 .ensures) at (c .if2 .taken)))
 
 returns-3 : tie.Need-returns-3
 unfolding hubEndpoint
 returns-3 c =
-    simp (eq-eqb _ _ (rw (c .before .before .before .before .byte-at .ensures) at (c .before .before .before .if1 .left)), le-ltb _ _ (rw (c .before .before .byte-at2 .ensures) at (c .before .if2 .left)), c .byte-at3 .ensures)
+    let one = eq-eqb _ _ (rw (c .before .before .before .before .byte-at .ensures) at (c .before .before .before .if1 .left)) in
+    simp (one, le-ltb _ _ (rw (c .before .before .byte-at2 .ensures) at (c .before .if2 .left)), c .byte-at3 .ensures)
 
 pub hub-endpoint-spec : {M : Type 1} → statement M
 hub-endpoint-spec =

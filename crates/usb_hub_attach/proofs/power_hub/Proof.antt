@@ -13,7 +13,8 @@ returns-2 : tie.Need-returns-2
 unfolding hubPowered
 returns-2 c =
     let told = c .before .before .before .before .before .before .before .before .before in
-    next (rw (told .enum-told .given .1) at (told .before .before .before .before .before .before .hub-get-status .ensures)) (next-ended _ _ (c .before .before .before .before .before .hub-power-on .ensures) (not-ok _ (c .match2 .keys2)))
+    next (rw (told .enum-told .given .1) at (told .before .before .before .before .before .before .hub-get-status .ensures))
+    (next-ended _ _ (c .before .before .before .before .before .hub-power-on .ensures) (not-ok _ (c .match2 .keys2)))
 
 returns-3 : tie.Need-returns-3
 unfolding hubPowered

@@ -9,14 +9,16 @@ use Rattle.usb_hub_attach.proofs.ready_hub.Tie as tie
 returns : tie.Need-returns
 returns c =
     let test = c .before .before .before .before .before .before .before .before in
-    fits _ (sym (test .before .hub-endpoint .ensures) ∙ test .if1 .taken) (next-ended _ _ (c .before .before .before .before .before .describe-hub .ensures) (not-ok _ (c .match .keys2)))
+    fits _ (sym (test .before .hub-endpoint .ensures) ∙ test .if1 .taken)
+    (next-ended _ _ (c .before .before .before .before .before .describe-hub .ensures) (not-ok _ (c .match .keys2)))
 
 returns-2 : tie.Need-returns-2
 returns-2 c =
     let told = c .before .before .before .before .before .before .before .before in
     let test = told .before .before .before .before .before .before .before .before .before in
     fits _ (sym (test .before .hub-endpoint .ensures) ∙ test .if1 .taken)
-    (next (rw (told .enum-told .given .1) at (told .before .before .before .before .before .before .describe-hub .ensures)) (c .before .before .before .before .power-hub .ensures))
+    (next (rw (told .enum-told .given .1) at (told .before .before .before .before .before .before .describe-hub .ensures))
+    (c .before .before .before .before .power-hub .ensures))
 
 returns-3 : tie.Need-returns-3
 returns-3 c = unfit _ (sym (c .before .hub-endpoint .ensures) ∙ c .if1 .left) (c .before .before .before .before .before .before .pre .0)

@@ -6,7 +6,10 @@ use Rattle.usb_hub_descriptor.proofs.put_blank.Tie as tie
 
 returns : tie.Need-returns
 returns c =
-    blank-put _ _ _ (c .before .before .before .before .before .before .before .before .before .before .byte-at .ensures) (c .before .before .before .before .before .before .before .before .before .if1 .taken) _ _ (c .before .before .before .before .before .before .before .set-byte .ensures) (c .before .before .set-bytes .ensures)
+    let second = c .before .before in
+    let first = second .before .before .before .before .before in
+    let test = first .before .before in
+    blank-put _ _ _ (test .before .byte-at .ensures) (test .if1 .taken) _ _ (first .set-byte .ensures) (second .set-bytes .ensures)
 
 returns-2 : tie.Need-returns-2
 returns-2 c = blank-kept _ _ _ (c .before .byte-at .ensures) (c .if1 .left)

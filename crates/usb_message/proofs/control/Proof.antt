@@ -6,7 +6,8 @@ use Rattle.usb_message.proofs.control.Tie as tie
 
 returns : tie.Need-returns
 returns c =
-    controlled _ _ _ _ _ _ _ _ _ _ (rw (c .before .before .before .before .before .before .before .byte-at .ensures) at (c .before .before .before .before .usb-control-message .ensures))
+    let call = c .before .before .before .before in
+    controlled _ _ _ _ _ _ _ _ _ _ (rw (call .before .before .before .byte-at .ensures) at (call .usb-control-message .ensures))
 
 pub control-spec : {M : Type 1} → statement M
 control-spec =

@@ -25,7 +25,8 @@ returns-2 c = λ l f.
     let took = c .before .before in
     let read = took .before .before .before .before .before in
     let start = read .before .before .before .before in
-    let whole = takes-left (now (start .args .outcomes)) (start .args .at .taken) _ _ (read .read-outcome .ensures) (took .before .before .before .outcome2 .given .1) in
+    let told = took .before .before .before .outcome2 .given .1 in
+    let whole = takes-left (now (start .args .outcomes)) (start .args .at .taken) _ _ (read .read-outcome .ensures) told in
     rw (took .take-outcome .ensures .1) (received _ _ _ _ _ _ _ f _ whole _ (took .take-outcome .ensures .0) (took .take-outcome .kept .0))
 
 pub receive-spec : {M : Type 1} → statement M

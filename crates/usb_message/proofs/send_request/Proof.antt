@@ -5,7 +5,10 @@ use Rattle.usb_message.proofs.send_request.Tie as tie
 
 returns : tie.Need-returns
 returns c =
-    rw (c .before .before .before .request-action .ensures, c .before .before .before .before .before .size-from-number .ensures, c .before .before .before .before .before .before .byte-at2 .ensures, c .before .before .before .before .before .before .before .byte-at .ensures) at (c .before .before .log-request .ensures)
+    let action = c .before .before .before in
+    let size = action .before .before in
+    rw (action .request-action .ensures, size .size-from-number .ensures, size .before .byte-at2 .ensures, size .before .before .byte-at .ensures)
+    at (c .before .before .log-request .ensures)
 
 pub send-request-spec : {M : Type 1} → statement M
 send-request-spec =

@@ -1,12 +1,14 @@
 -- `usb_scan::check_child` meets its contract. Assumes nothing.
 use borrow.Author.Needs.{needs}
-use mathlib.Core.Path.{refl, ap, _∙_}
+use mathlib.Core.Path.{_≡_, refl, ap, _∙_}
 use mathlib.Core.Bool.{not}
 use borrow.Author.Tests.{eq-eqb, ne-eqb}
+use Rattle.usb_store.specs.Layout.{Child}
+use Rattle.usb_store.specs.Access.{byteAt}
 use Rattle.usb_model.specs.Programs.{throw}
-use Rattle.usb_device.proofs.HubRecord.{child-at}
-use Rattle.usb_transfer.proofs.Steps.{not-ok, next, next-ended, got-as, done-if, done-unless}
+use Rattle.usb_transfer.proofs.Steps.{as-ok, not-ok, next, next-ended, got-as, done-if, done-unless}
 use Rattle.usb_scan.specs.Parts.{checkChild}
+use Rattle.usb_scan.proofs.Scans.{child-read}
 use Rattle.usb_scan.proofs.check_child.Statement.{statement}
 use Rattle.usb_scan.proofs.check_child.Tie as tie
 
@@ -14,20 +16,32 @@ returns : tie.Need-returns
 unfolding checkChild
 returns c n h = next-ended _ _ (c .before .before .before .before .before .hub-check-connection .ensures n h) (not-ok _ (c .match .keys2))
 
+-- ---- once the check answered Ok
+
+abbrev checked : tie.After-wide → tie.After-hub-check-connection
+checked c = c .before .before .before .before .before .before .before .before .before .before
+
+abbrev entry : tie.After-wide → tie.Start
+entry c = checked c .before .before .before .before .before .before
+
+child : (c : tie.After-wide)
+    → c .wide .result ≡ byteAt (checked c .hub-check-connection .last .0) (entry c .args .hub) (Child (entry c .args .port))
+child c = child-read _ _ _ (entry c .pre .2) (c .before .before .load-hub .ensures) (c .wide .ensures .0 ∙ c .before .child-of .ensures)
+
 returns-2 : tie.Need-returns-2
 unfolding checkChild throw
 returns-2 c n h =
-    let checked = rw (c .before .before .before .before .before .before .enum-told .given .1) at (c .before .before .before .before .before .before .before .before .before .before .before .before .hub-check-connection .ensures n h) in
-    let stands = rw (c .before .before .before .before .load-hub .ensures, child-at _ _ _ (c .before .before .before .before .before .before .before .before .before .before .before .before .before .before .before .before .before .before .pre .2)) at (c .before .before .wide .ensures .0 ∙ c .before .before .before .child-of .ensures) in
-    next checked (got-as _ _ _ stands (done-if (ap not (ne-eqb _ _ (c .before .if1 .taken))) (record { is = refl; fit = checked .fit })))
+    let read = c .before .before in
+    let check = as-ok (read .before .before .before .before .enum-told .given .1) (checked read .hub-check-connection .ensures n h) in
+    next check (got-as _ _ _ (child read) (done-if (ap not (ne-eqb _ _ (c .before .if1 .taken))) (record { is = refl; fit = check .fit })))
 
 returns-3 : tie.Need-returns-3
 unfolding checkChild
 returns-3 c n h =
-    let ok = c .before .before .before .before .before .enum-told .given .1 in
-    let checked = rw ok at (c .before .before .before .before .before .before .before .before .before .before .before .hub-check-connection .ensures n h) in
-    let stands = rw (c .before .before .before .load-hub .ensures, child-at _ _ _ (c .before .before .before .before .before .before .before .before .before .before .before .before .before .before .before .before .before .pre .2)) at (c .before .wide .ensures .0 ∙ c .before .before .child-of .ensures) in
-    rw ok (next checked (got-as _ _ _ stands (done-unless _ (ap not (eq-eqb _ _ (c .if1 .left))) (checked .fit))))
+    let read = c .before in
+    let ok = read .before .before .before .before .enum-told .given .1 in
+    let check = as-ok ok (checked read .hub-check-connection .ensures n h) in
+    rw ok (next check (got-as _ _ _ (child read) (done-unless _ (ap not (eq-eqb _ _ (c .if1 .left))) (check .fit))))
 
 pub check-child-spec : {M : Type 1} → statement M
 check-child-spec =

@@ -10,19 +10,28 @@ returns c = no-type _ _ _ (c .if1 .taken)
 
 returns-2 : tie.Need-returns-2
 returns-2 c =
-    by-kind _ _ _ (c .before .before .before .before .before .before .before .before .if1 .left) _ (sym (c .before .before .before .before .enum-told .given .1) ∙ c .before .before .before .before .before .before .descriptor-kind .ensures) _ _ (c .before .before .interface-descriptor .ensures)
+    let told = c .before .before .before .before in
+    let kind = sym (told .enum-told .given .1) ∙ told .before .before .descriptor-kind .ensures in
+    by-kind _ _ _ (told .before .before .before .before .if1 .left) _ kind _ _ (c .before .before .interface-descriptor .ensures)
 
 returns-3 : tie.Need-returns-3
 returns-3 c =
-    by-kind _ _ _ (c .before .before .before .before .before .before .before .before .if1 .left) _ (sym (c .before .before .before .before .enum-told2 .given .1) ∙ c .before .before .before .before .before .before .descriptor-kind .ensures) _ _ (c .before .before .endpoint-descriptor .ensures)
+    let told = c .before .before .before .before in
+    let kind = sym (told .enum-told2 .given .1) ∙ told .before .before .descriptor-kind .ensures in
+    by-kind _ _ _ (told .before .before .before .before .if1 .left) _ kind _ _ (c .before .before .endpoint-descriptor .ensures)
 
 returns-4 : tie.Need-returns-4
 returns-4 c =
-    by-kind _ _ _ (c .before .before .before .before .before .before .if1 .left) _ (sym (c .before .before .enum-told3 .given .1) ∙ c .before .before .before .before .descriptor-kind .ensures) _ _ (other-ends _ _ _ (c .if2 .taken))
+    let told = c .before .before in
+    let kind = sym (told .enum-told3 .given .1) ∙ told .before .before .descriptor-kind .ensures in
+    by-kind _ _ _ (told .before .before .before .before .if1 .left) _ kind _ _ (other-ends _ _ _ (c .if2 .taken))
 
 returns-5 : tie.Need-returns-5
 returns-5 c =
-    by-kind _ _ _ (c .before .before .before .before .before .before .if1 .left) _ (sym (c .before .before .enum-told3 .given .1) ∙ c .before .before .before .before .descriptor-kind .ensures) _ _ (other-goes _ _ _ (c .before .before .before .before .before .before .before .before .before .pre) (c .if2 .left))
+    let told = c .before .before in
+    let kind = sym (told .enum-told3 .given .1) ∙ told .before .before .descriptor-kind .ensures in
+    let first = told .before .before .before .before in
+    by-kind _ _ _ (first .if1 .left) _ kind _ _ (other-goes _ _ _ (first .before .before .before .pre) (c .if2 .left))
 
 pub descriptor-spec : {M : Type 1} → statement M
 descriptor-spec =

@@ -27,32 +27,41 @@ returns-3 c =
     let w = c .before .before .before in
     no-interface _ _ _ (w .before .before .before .before .pre .1) (is-whole w) (c .before .before .if2 .left) (c .if3 .taken)
 
+abbrev test : tie.After-endpoint-count → tie.Else2
+test c = c .before .before .before .before
+
 returns-4 : tie.Need-returns-4
 returns-4 c =
     let n = c .before .before in
-    let t = n .before .before .before .before in
-    count-reached _ _ _ (t .before .before .before .before .before .pre .1) (is-whole (t .before)) (t .if2 .left) (n .before .before .if3 .left) _ (n .endpoint-count .ensures)
-    (c .if4 .taken)
+    let t = test n in
+    count-reached _ _ _ (t .before .before .before .before .before .pre .1) (is-whole (t .before)) (t .if2 .left)
+    (n .before .before .if3 .left) _ (n .endpoint-count .ensures) (c .if4 .taken)
 
 returns-5 : tie.Need-returns-5
 returns-5 c =
     let n = c .before .before .before .before in
-    let t = n .before .before .before .before in
-    seventeenth _ _ _ (t .before .before .before .before .before .pre .1) (is-whole (t .before)) (t .if2 .left) (n .before .before .if3 .left) _ (n .endpoint-count .ensures)
-    (c .before .before .if4 .left) (c .if5 .taken)
+    let t = test n in
+    seventeenth _ _ _ (t .before .before .before .before .before .pre .1) (is-whole (t .before)) (t .if2 .left)
+    (n .before .before .if3 .left) _ (n .endpoint-count .ensures) (c .before .before .if4 .left) (c .if5 .taken)
 
 slice-aggregate-memory-copy : tie.Need-slice-aggregate-memory-copy
-slice-aggregate-memory-copy c = let seven = whole-long _ _ (is-whole (c .before .before .before .before .before .before .before .before .before .before .before .before .before)) in search needs
+slice-aggregate-memory-copy c =
+    let seven = whole-long _ _ (is-whole (test (c .before .before .before .before .before .before .before .before) .before)) in
+    search needs
 
 memory-copy-requires : tie.Need-memory-copy-requires
-memory-copy-requires c κs = omega (arith, whole-long _ _ (is-whole (c .before .before .before .before .before .before .before .before .before .before .before .before .before)))
+memory-copy-requires c κs =
+    let n = c .before .before .before .before .before .before .before .before in
+    omega (arith, whole-long _ _ (is-whole (test n .before)))
 
 returns-6 : tie.Need-returns-6
 returns-6 c =
-    let n = c .before .before .before .before .before .before .before .before .before .before .before .before in
-    let t = n .before .before .before .before in
-    endpoint-stored _ _ _ (t .before .before .before .before .before .pre .1) (is-whole (t .before)) (t .if2 .left) (n .before .before .if3 .left) _ (n .endpoint-count .ensures)
-    (c .before .before .before .before .before .before .before .before .before .before .if4 .left) (c .before .before .before .before .before .before .before .before .if5 .left) _ (c .before .before .before .memory-copy .ensures)
+    let room = c .before .before .before .before .before .before .before .before in
+    let n = room .before .before .before .before in
+    let t = test n in
+    endpoint-stored _ _ _ (t .before .before .before .before .before .pre .1) (is-whole (t .before)) (t .if2 .left)
+    (n .before .before .if3 .left) _ (n .endpoint-count .ensures)
+    (room .before .before .if4 .left) (room .if5 .left) _ (c .before .before .before .memory-copy .ensures)
 
 pub endpoint-descriptor-spec : {M : Type 1} → statement M
 endpoint-descriptor-spec =

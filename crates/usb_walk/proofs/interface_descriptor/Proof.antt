@@ -28,7 +28,8 @@ returns-2 c =
 returns-3 : tie.Need-returns-3
 returns-3 c =
     let w = c .before .before .before in
-    interface-high _ _ _ (w .before .before .before .before .before .before .pre .1) (is-whole (w .before .before)) _ (w .wide .ensures .0) (c .before .if2 .left) (c .if3 .taken)
+    interface-high _ _ _ (w .before .before .before .before .before .before .pre .1) (is-whole (w .before .before)) _ (w .wide .ensures .0)
+    (c .before .if2 .left) (c .if3 .taken)
 
 slice-aggregate-memory-copy : tie.Need-slice-aggregate-memory-copy
 slice-aggregate-memory-copy c = let nine = whole-long _ _ (is-whole (c .before .before .before .before .before .before .before)) in search needs
@@ -38,9 +39,10 @@ memory-copy-requires c κs = omega (arith, whole-long _ _ (is-whole (c .before .
 
 returns-4 : tie.Need-returns-4
 returns-4 c =
-    let w = c .before .before .before .before .before .before .before .before in
+    let other = c .before .before .before .before .before .before in
+    let w = other .before .before in
     interface-stored _ _ _ (w .before .before .before .before .before .before .pre .1) (is-whole (w .before .before)) _ (w .wide .ensures .0)
-    (c .before .before .before .before .before .before .if2 .left) (c .before .before .before .before .before .if3 .left) _ (c .before .before .memory-copy .ensures)
+    (other .if2 .left) (c .before .before .before .before .before .if3 .left) _ (c .before .before .memory-copy .ensures)
 
 pub interface-descriptor-spec : {M : Type 1} → statement M
 interface-descriptor-spec =

@@ -23,22 +23,28 @@ loop-holds c = starts _ _ _ (c .before .before .if1 .left) (c .wide .ensures .0)
 returns-2 : tie.Need-returns-2 Inv-loop μ-loop
 returns-2 c =
     let d = c .before .before .before .before in
-    ended _ _ _ _ _ (d .before .before .before .before .loop .inv) (d .before .before .before .loop-test .taken) _ _ (d .descriptor .ensures) (c .enum-told .given .1)
+    let turn = d .before .before .before in
+    ended _ _ _ _ _ (turn .before .loop .inv) (turn .loop-test .taken) _ _ (d .descriptor .ensures) (c .enum-told .given .1)
 
 returns-3 : tie.Need-returns-3 Inv-loop μ-loop
 returns-3 c =
     let d = c .before .before .before .before .before in
-    refused _ _ _ _ _ (d .before .before .before .before .loop .inv) (d .before .before .before .loop-test .taken) _ _ (d .descriptor .ensures) _ (c .before .next .given .1)
+    let turn = d .before .before .before in
+    refused _ _ _ _ _ (turn .before .loop .inv) (turn .loop-test .taken) _ _ (d .descriptor .ensures) _ (c .before .next .given .1)
 
 loop-less : tie.Need-loop-less Inv-loop μ-loop
 loop-less c =
     let d = c .before .before .before .before .before .before .before in
-    omega (arith, moves _ _ _ _ _ (d .before .before .before .before .loop .inv) (d .before .before .before .loop-test .taken) _ _ (d .descriptor .ensures) _ (c .before .before .before .next2 .given .1))
+    let turn = d .before .before .before in
+    let next = c .before .before .before .next2 .given .1 in
+    omega (arith, moves _ _ _ _ _ (turn .before .loop .inv) (turn .loop-test .taken) _ _ (d .descriptor .ensures) _ next)
 
 loop-again : tie.Need-loop-again Inv-loop μ-loop
 loop-again c =
     let d = c .before .before .before .before .before .before .before in
-    goes-on _ _ _ _ _ (d .before .before .before .before .loop .inv) (d .before .before .before .loop-test .taken) _ _ (d .descriptor .ensures) _ (c .before .before .before .next2 .given .1) _ (c .wide2 .ensures .0)
+    let turn = d .before .before .before in
+    let next = c .before .before .before .next2 .given .1 in
+    goes-on _ _ _ _ _ (turn .before .loop .inv) (turn .loop-test .taken) _ _ (d .descriptor .ensures) _ next _ (c .wide2 .ensures .0)
 
 returns-4 : tie.Need-returns-4 Inv-loop μ-loop
 returns-4 c = ends (c .before .loop .inv) (c .loop-test .left)

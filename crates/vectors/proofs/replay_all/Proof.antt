@@ -38,17 +38,22 @@ same-length-2 c = c .before .before .before .before .before .before .loop .inv .
 same-length-3 : tie.Need-same-length-3 Inv-loop μ-loop
 same-length-3 c = c .before .before .before .before .before .before .loop .inv .3
 
+abbrev turn : tie.After-tally Inv-loop μ-loop → tie.In-loop Inv-loop μ-loop
+turn c = c .before .before .before .before .before .before .before .before .before .before
+
 add-n : tie.Need-add-n Inv-loop μ-loop
-add-n c = omega (arith, c .before .before .before .before .before .before .before .before .before .before .before .before .before .before .before .before .loop-test .taken)
+add-n c = omega (arith, turn (c .before .before .before .before .before .before) .loop-test .taken)
 
 loop-less : tie.Need-loop-less Inv-loop μ-loop
-loop-less c = omega (arith, c .before .before .before .before .before .before .before .before .before .before .before .before .before .before .before .before .loop-test .taken)
+loop-less c = omega (arith, turn (c .before .before .before .before .before .before) .loop-test .taken)
 
 loop-again : tie.Need-loop-again Inv-loop μ-loop
 loop-again c =
-    let inv = c .before .before .before .before .before .before .before .before .before .before .before .before .before .before .before .before .before .loop .inv in
-    let kept = c .before .before .before .before .before .before .tally .kept in
-    (c .before .before .before .before .before .before .before .before .before .before .before .before .before .before .next-record .kept .1 .1 .0 ∙ inv .0, kept .0 ∙ inv .1, kept .1 .0 ∙ inv .2, kept .1 .1 .0 ∙ inv .3)
+    let tally = c .before .before .before .before .before .before in
+    let inv = turn tally .before .loop .inv in
+    let kept = tally .tally .kept in
+    let store = tally .before .before .before .before .before .before .before .before .next-record .kept .1 .1 .0 in
+    (store ∙ inv .0, kept .0 ∙ inv .1, kept .1 .0 ∙ inv .2, kept .1 .1 .0 ∙ inv .3)
 
 same-length-4 : tie.Need-same-length-4 Inv-loop μ-loop
 same-length-4 c = c .before .loop .inv .1

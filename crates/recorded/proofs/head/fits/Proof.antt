@@ -11,6 +11,11 @@ fits-spec =
     (tie.spec
     (λ c. fits-by _ _ _ _ _ _ (le-ltb _ _ (c .if1 .taken)) refl refl refl refl)
     (λ c. fits-by _ _ _ _ _ _ (lt-ltb _ _ (c .before .before .if1 .left)) (lt-leb _ _ (c .if2 .taken)) refl refl refl)
-    (λ c. fits-by _ _ _ _ _ _ (lt-ltb _ _ (c .before .before .before .before .if1 .left)) (le-leb _ _ (c .before .before .if2 .left)) (lt-leb _ _ (c .if3 .taken)) refl refl)
-    (λ c. fits-by _ _ _ _ _ _ (lt-ltb _ _ (c .before .before .before .before .before .before .if1 .left)) (le-leb _ _ (c .before .before .before .before .if2 .left)) (le-leb _ _ (c .before .before .if3 .left)) (lt-leb _ _ (c .if4 .taken)) refl)
-    (λ c. fits-by _ _ _ _ _ _ (lt-ltb _ _ (c .before .before .before .before .before .before .before .if1 .left)) (le-leb _ _ (c .before .before .before .before .before .if2 .left)) (le-leb _ _ (c .before .before .before .if3 .left)) (le-leb _ _ (c .before .if4 .left)) refl))
+    (λ c. fits-by _ _ _ _ _ _ (lt-ltb _ _ (c .before .before .before .before .if1 .left)) (le-leb _ _ (c .before .before .if2 .left))
+    (lt-leb _ _ (c .if3 .taken)) refl refl)
+    (λ c. fits-by _ _ _ _ _ _
+    (lt-ltb _ _ (c .before .before .before .before .before .before .if1 .left)) (le-leb _ _ (c .before .before .before .before .if2 .left))
+    (le-leb _ _ (c .before .before .if3 .left)) (lt-leb _ _ (c .if4 .taken)) refl)
+    (λ c. fits-by _ _ _ _ _ _
+    (lt-ltb _ _ (c .before .before .before .before .before .before .before .if1 .left)) (le-leb _ _ (c .before .before .before .before .before .if2 .left))
+    (le-leb _ _ (c .before .before .before .if3 .left)) (le-leb _ _ (c .before .if4 .left)) refl))

@@ -9,8 +9,10 @@ use Rattle.recorded.proofs.head.recorded_in.Tie as tie
 
 returns : tie.Need-returns
 returns c =
-    let n : toZ w32 (ofZ w32 (c .before .before .before .signed .result)) ≡ c .before .before .before .signed .result = search needs in
-    recorded-by _ _ _ _ _ _ (n ∙ c .before .before .before .signed .ensures) (c .before .before .before .before .u32-at .ensures) (c .before .before .u64-at .ensures) (c .before .u32-at2 .ensures) (c .u32-at3 .ensures)
+    let answer = c .before .before .before in
+    let n : toZ w32 (ofZ w32 (answer .signed .result)) ≡ answer .signed .result = search needs in
+    recorded-by _ _ _ _ _ _ (n ∙ answer .signed .ensures) (answer .before .u32-at .ensures)
+    (c .before .before .u64-at .ensures) (c .before .u32-at2 .ensures) (c .u32-at3 .ensures)
 
 pub recorded-in-spec : {M : Type 1} → statement M
 recorded-in-spec =

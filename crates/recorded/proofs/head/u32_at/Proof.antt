@@ -2,12 +2,14 @@
 use borrow.Author.Needs.{needs}
 use native.Mathlib.Omega.{arith}
 use denote.Ref.{now}
-use Rattle.recorded.proofs.Bytes.{number-4}
+use Rattle.usb_types.proofs.LittleEndian.{number-4}
 use Rattle.recorded.proofs.head.u32_at.Statement.{statement}
 use Rattle.recorded.proofs.head.u32_at.Tie as tie
 
 returns : tie.Need-returns
-returns c = omega (arith, number-4 (now (c .before .before .before .before .before .before .before .before .before .args .bytes)) (c .before .before .before .before .before .before .before .before .before .args .at) (c .before .before .before .before .before .before .before .before .before .pre))
+returns c =
+    let start = c .before .before .before .before .before .before .before .before .before in
+    omega (arith, number-4 (now (start .args .bytes)) (start .args .at) (start .pre))
 
 pub u32-at-spec : {M : Type 1} → statement M
 u32-at-spec =

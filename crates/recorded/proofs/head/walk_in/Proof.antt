@@ -10,7 +10,9 @@ use Rattle.recorded.proofs.head.walk_in.Tie as tie
 returns : tie.Need-returns
 returns c =
     let n : toZ w32 (ofZ w32 (c .before .signed .result)) ≡ c .before .signed .result = search needs in
-    walk-by _ _ _ _ _ _ (c .before .before .before .before .u32-at .ensures) (c .before .before .before .u32-at2 .ensures) (n ∙ c .before .signed .ensures) (c .before .before .u32-at3 .ensures) (c .u32-at4 .ensures)
+    let lengths = c .before .before .before in
+    walk-by _ _ _ _ _ _ (lengths .before .u32-at .ensures) (lengths .u32-at2 .ensures)
+    (n ∙ c .before .signed .ensures) (c .before .before .u32-at3 .ensures) (c .u32-at4 .ensures)
 
 pub walk-in-spec : {M : Type 1} → statement M
 walk-in-spec =

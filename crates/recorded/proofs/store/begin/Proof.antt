@@ -5,7 +5,9 @@ use Rattle.recorded.proofs.store.begin.Statement.{statement}
 use Rattle.recorded.proofs.store.begin.Tie as tie
 
 returns : tie.Need-returns
-returns c = begins _ _ _ (c .before .before .before .before .if1 .taken) (c .before .before .before .before .before .before .before .pre) (c .before .before .fill-zero .ensures)
+returns c =
+    let test = c .before .before .before .before in
+    begins _ _ _ (test .if1 .taken) (test .before .before .before .pre) (c .before .before .fill-zero .ensures)
 
 returns-2 : tie.Need-returns-2
 returns-2 c = goes-on _ _ (c .if1 .left)

@@ -5,7 +5,9 @@ use Rattle.recorded.proofs.store.carry.Statement.{statement}
 use Rattle.recorded.proofs.store.carry.Tie as tie
 
 returns : tie.Need-returns
-returns c = carried _ _ _ _ (c .before .before .before .before .if1 .taken) (c .before .before .before .before .before .before .before .before .pre) (c .before .before .resize .ensures)
+returns c =
+    let test = c .before .before .before .before in
+    carried _ _ _ _ (test .if1 .taken) (test .before .before .before .before .pre) (c .before .before .resize .ensures)
 
 returns-2 : tie.Need-returns-2
 returns-2 c = stays _ _ _ (c .if1 .left)

@@ -21,9 +21,11 @@ loop-holds c = (omega arith, edit-start _ _ _, refl)
 
 loop-again : tie.Need-loop-again Inv-loop μ-loop
 loop-again c =
-    let head = c .before .before .before .before .before .before .before .loop in
+    let more = c .before .before .before .before .before .before .loop-test .taken in
+    let inv = c .before .before .before .before .before .before .before .loop .inv in
     let put = c .before .before .put .ensures in
-    (omega (arith, c .before .before .before .before .before .before .loop-test .taken), edit-again _ _ _ _ _ _ _ (c .before .before .before .before .before .before .loop-test .taken) (c .before .before .before .before .before .u32-at .ensures) put (head .inv .1), ap length put ∙ simp (length-set, head .inv .2))
+    let again = edit-again _ _ _ _ _ _ _ more (c .before .before .before .before .before .u32-at .ensures) put (inv .1) in
+    (omega (arith, more), again, ap length put ∙ simp (length-set, inv .2))
 
 returns : tie.Need-returns Inv-loop μ-loop
 returns c = sym (edit-end _ _ _ _ (c .loop-test .left)) ∙ c .before .loop .inv .1

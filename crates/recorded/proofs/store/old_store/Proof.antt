@@ -5,7 +5,9 @@ use Rattle.recorded.proofs.store.old_store.Statement.{statement}
 use Rattle.recorded.proofs.store.old_store.Tie as tie
 
 returns : tie.Need-returns
-returns c = old-is _ _ _ _ _ _ (c .before .before .before .before .before .before .before .before .before .before .before .before .pre .0) (c .before .before .before .before .before .before .before .resize .ensures) (c .before .before .edit .ensures)
+returns c =
+    let sized = c .before .before .before .before .before .before .before in
+    old-is _ _ _ _ _ _ (sized .before .before .before .before .before .pre .0) (sized .resize .ensures) (c .before .before .edit .ensures)
 
 pub old-store-spec : {M : Type 1} → statement M
 old-store-spec =

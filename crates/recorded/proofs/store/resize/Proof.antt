@@ -11,13 +11,19 @@ returns : tie.Need-returns
 returns c = resized-whole _ _ _ _ (c .before .before .before .before .before .before .before .fill-zero .ensures) (c .before .before .memory-copy .ensures)
 
 slice-aggregate-memory-copy : tie.Need-slice-aggregate-memory-copy
-slice-aggregate-memory-copy c = omega (arith, length-take (length (c .before .before .before .before .before .fill-zero .last .0)) (now (c .before .before .before .before .before .before .before .before .before .args .src)))
+slice-aggregate-memory-copy c =
+    let filled = c .before .before .before .before .before in
+    omega (arith, length-take (length (filled .fill-zero .last .0)) (now (filled .before .before .before .before .args .src)))
 
 memory-copy-requires-2 : tie.Need-memory-copy-requires-2
-memory-copy-requires-2 c κs = omega (arith, length-take (length (c .before .before .before .before .before .fill-zero .last .0)) (now (c .before .before .before .before .before .before .before .before .before .args .src)))
+memory-copy-requires-2 c κs =
+    let filled = c .before .before .before .before .before in
+    omega (arith, length-take (length (filled .fill-zero .last .0)) (now (filled .before .before .before .before .args .src)))
 
 returns-2 : tie.Need-returns-2
-returns-2 c = resized-cut _ _ _ _ (c .before .before .before .before .before .before .before .before .fill-zero .ensures) (c .before .before .memory-copy2 .ensures)
+returns-2 c =
+    let copied = c .before .before in
+    resized-cut _ _ _ _ (copied .before .before .before .before .before .before .fill-zero .ensures) (copied .memory-copy2 .ensures)
 
 pub resize-spec : {M : Type 1} → statement M
 resize-spec =

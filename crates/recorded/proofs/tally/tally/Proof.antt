@@ -4,10 +4,17 @@ use Rattle.recorded.proofs.tally.tally.Statement.{statement}
 use Rattle.recorded.proofs.tally.tally.Tie as tie
 
 returns : tie.Need-returns
-returns c = (c .before .before .before .before .before .before .before .count .ensures, record { counts = simp (c .before .before .before .before .if1 .taken) (c .before .before .count2 .ensures); notes = simp (c .before .before .before .before .if1 .taken); number-noted = simp (c .before .before .before .before .if1 .taken) })
+returns c =
+    let test = c .before .before .before .before in
+    let ok = test .if1 .taken in
+    (test .before .before .before .count .ensures, record { counts = simp ok (c .before .before .count2 .ensures); notes = simp ok; number-noted = simp ok })
 
 returns-2 : tie.Need-returns-2
-returns-2 c = (c .before .before .before .before .before .before .before .count .ensures, record { counts = simp (c .before .before .before .before .if1 .left); notes = simp (c .before .before .before .before .if1 .left) (c .before .before .note .ensures .0); number-noted = simp (c .before .before .before .before .if1 .left) (c .before .before .note .ensures .1) })
+returns-2 c =
+    let test = c .before .before .before .before in
+    let differs = test .if1 .left in
+    let noted = c .before .before .note .ensures in
+    (test .before .before .before .count .ensures, record { counts = simp differs; notes = simp differs (noted .0); number-noted = simp differs (noted .1) })
 
 pub tally-spec : {M : Type 1} → statement M
 tally-spec =

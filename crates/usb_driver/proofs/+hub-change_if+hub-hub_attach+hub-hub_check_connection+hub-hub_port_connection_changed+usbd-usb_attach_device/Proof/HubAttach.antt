@@ -1,112 +1,149 @@
--- What `hub_attach` is left to show. The loop's invariant: the ports that are left, run from here, are all ports run from where the loop began. Assumes nothing.
-use Prim.Native.Nat.{ℕ, _-_, _<_}
+-- `hub_attach` meets its contract, if its calls do. The loop's invariant: the ports that are left, run from here, are all ports run from
+-- where the loop began. Assumes nothing.
+use Prim.Native.Nat.{ℕ, _-_, _<_, _≤_}
 use borrow.Author.Needs.{needs}
-use mathlib.Core.Path.{refl, sym, ap, _∙_}
+use mathlib.Core.Path.{_≡_, refl, sym, ap, _∙_}
+use lib.ListN.{length}
 use native.Mathlib.Omega.{arith}
 use native.Mathlib.Nat.{le-refl}
+use denote.Ref.{now}
+use Rattle.usb_types.specs.declared.types.Answer.{Answer}
+use Rattle.usb_types.proofs.types.wide.Reads as wide
+use Rattle.usb_store.proofs.byte_at.Reads as byte-at
+use Rattle.usb_device.specs.Device.{freePlaces}
+use Rattle.usb_model.specs.World.{World}
+use Rattle.usb_model.specs.Hub.{hubAttach}
+use Rattle.usb_model.specs.Attach.{attachBelow}
 use Rattle.usb_transfer.specs.declared.log.Step.{Step}
-use Rattle.usb_transfer.specs.Runs.{here}
-use Rattle.usb_transfer.proofs.Steps.{not-ok, next, next-ended, got-as, going, ends-with, each-starts, each-last, each-ended, each-goes}
+use Rattle.usb_transfer.specs.Runs.{here, Ends}
+use Rattle.usb_transfer.proofs.Steps.{as-ok, not-ok, next, next-ended, got-as, going, ends-with, each-starts, each-last, each-ended, each-goes}
 use Rattle.usb_hub.proofs.Parts.{ignores}
-use Rattle.usb_driver.proofs.Reaches.{ready-after, checked-after, PortsChecked}
-use Rattle.usb_driver.proofs.Lines.{ends-as, hub-attaches}
-use Rattle.usb_driver.proofs.hub.hub_attach.Reads as hub-attach
-use Rattle.usb_driver.proofs.+hub-change_if+hub-hub_attach+hub-hub_check_connection+hub-hub_port_connection_changed+usbd-usb_attach_device.Lts-hub-hub_attach as hub-attach-lts
-use Rattle.usb_driver.proofs.hub.hub_check_connection.Reads as hub-check-connection
-use Rattle.usb_hub_attach.proofs.ready_hub.Reads as ready-hub-reads
-use Rattle.usb_store.proofs.byte_at.Reads as byte-at-reads
-use Rattle.usb_hub.proofs.requests.ignore.Reads as ignore-reads
-use Rattle.usb_types.proofs.types.wide.Reads as wide-reads
-use Rattle.usb_driver.proofs.+hub-change_if+hub-hub_attach+hub-hub_check_connection+hub-hub_port_connection_changed+usbd-usb_attach_device.Proof.Measures.{hub-attach-at, hub-check-connection-below}
+use Rattle.usb_hub.proofs.requests.ignore.Reads as ignore
+use Rattle.usb_hub_attach.proofs.ready_hub.Reads as ready-hub
+use Rattle.usb_driver.proofs.Reaches.{After, ready-after, checked-after, checksAll, PortsChecked}
+use Rattle.usb_driver.proofs.Lines.{hub-attaches}
+use Rattle.usb_transfer.proofs.Regroups.{ends-as}
+use Rattle.usb_driver.proofs.hub.hub_check_connection.Reads as check
+use Rattle.usb_driver.proofs.hub.hub_attach.Reads.{Post}
+use Rattle.usb_driver.proofs.+hub-change_if+hub-hub_attach+hub-hub_check_connection+hub-hub_port_connection_changed+usbd-usb_attach_device as cycle
+use cycle.Lts-hub-hub_attach as lts
+use cycle.Proof.Measures.{hub-attach-at as Pre, hub-check-connection-below as check-below}
 
 module _ (t : ℕ) where
-  abbrev pub calls : hub-attach-lts.Claims
-  calls = (ready-hub-reads.Asked, ready-hub-reads.Learnt, byte-at-reads.Asked, byte-at-reads.Learnt, wide-reads.Asked, wide-reads.Learnt, hub-check-connection-below t, hub-check-connection.Post, ignore-reads.Asked, ignore-reads.Learnt)
+  abbrev calls : lts.Claims
+  calls = (ready-hub.Asked, ready-hub.Learnt, byte-at.Asked, byte-at.Learnt, wide.Asked, wide.Learnt, check-below t, check.Post, ignore.Asked, ignore.Learnt)
 
-  abbrev pub Inv-loop : hub-attach-lts.InvT-loop
+  abbrev Inv-loop : lts.InvT-loop
   Inv-loop store₀ log₀ outcomes hub progress₀ count port₀ store log progress port =
       PortsChecked hub count port (here store₀ log₀ outcomes progress₀) (here store log outcomes progress)
 
-  abbrev pub μ-loop : hub-attach-lts.MeasureT-loop
+  abbrev μ-loop : lts.MeasureT-loop
   μ-loop store₀ log₀ outcomes hub progress₀ count port₀ store log progress port = count - port
 
-  pub ready-hub-requires : hub-attach-lts.Need-ready-hub-requires calls (hub-attach-at t) hub-attach.Post Inv-loop μ-loop
-  ready-hub-requires c κs = (c .before .before .before .before .before .pre .1 .fit, c .before .before .before .before .before .pre .1 .inside)
+  -- ---- the places, from the loop to the entry
 
-  pub enum-told : hub-attach-lts.Need-enum-told calls (hub-attach-at t) hub-attach.Post Inv-loop μ-loop
-  enum-told c = search needs
+  abbrev entry : lts.After-ready-hub calls (Pre t) Post Inv-loop μ-loop → lts.Start calls (Pre t) Post Inv-loop μ-loop
+  entry c = c .before .before .before .before .before .before
 
-  pub same-length : hub-attach-lts.Need-same-length calls (hub-attach-at t) hub-attach.Post Inv-loop μ-loop
-  same-length c = search needs
+  abbrev ready : lts.At-loop calls (Pre t) Post Inv-loop μ-loop → lts.After-ready-hub calls (Pre t) Post Inv-loop μ-loop
+  ready c = c .before .before .before .before .before .before .before .before .before .before .before
 
-  pub same-length-2 : hub-attach-lts.Need-same-length-2 calls (hub-attach-at t) hub-attach.Post Inv-loop μ-loop
-  same-length-2 c = search needs
+  abbrev turn : lts.After-hub-check-connection calls (Pre t) Post Inv-loop μ-loop → lts.In-loop calls (Pre t) Post Inv-loop μ-loop
+  turn c = c .before .before .before
 
-  pub returns : hub-attach-lts.Need-returns calls (hub-attach-at t) hub-attach.Post Inv-loop μ-loop
-  returns c n h = ends-as (hub-attaches _ _) (next-ended _ _ (c .before .before .before .before .before .ready-hub .ensures) (not-ok _ (c .match .keys2)))
+  -- ---- the bus there
 
-  pub byte-at-requires : hub-attach-lts.Need-byte-at-requires calls (hub-attach-at t) hub-attach.Post Inv-loop μ-loop
-  byte-at-requires c κs = search needs
+  abbrev at-entry : lts.After-ready-hub calls (Pre t) Post Inv-loop μ-loop → World
+  at-entry c = here (now (entry c .args .store)) (now (entry c .args .log)) (now (entry c .args .outcomes)) (entry c .args .at)
 
-  pub wide-requires : hub-attach-lts.Need-wide-requires calls (hub-attach-at t) hub-attach.Post Inv-loop μ-loop
-  wide-requires c κs = search needs
+  abbrev at-ready : lts.After-ready-hub calls (Pre t) Post Inv-loop μ-loop → World
+  at-ready c = here (c .ready-hub .last .0) (c .ready-hub .last .1 .0) (now (entry c .args .outcomes)) (c .ready-hub .result .at)
 
-  pub loop-holds : hub-attach-lts.Need-loop-holds calls (hub-attach-at t) hub-attach.Post Inv-loop μ-loop
+  abbrev at-turn : lts.At-loop calls (Pre t) Post Inv-loop μ-loop → World
+  at-turn c = here (c .loop .store) (c .loop .log) (now (entry (ready c) .args .outcomes)) (c .loop .progress)
+
+  readied : (c : lts.After-ready-hub calls (Pre t) Post Inv-loop μ-loop) → After (entry c .args .hub) (at-entry c) (at-ready c)
+  readied c = ready-after (entry c .pre .1) (c .ready-hub .ensures)
+
+  -- a hub has at most ten ports
+  low : (c : lts.In-loop calls (Pre t) Post Inv-loop μ-loop) → c .before .loop .port < 10
+  low c =
+      let r = ready (c .before) in
+      let most = readied r .bus .good .most (entry r .args .hub) in
+      omega (arith, c .loop-test .taken, c .before .before .wide .ensures .0, c .before .before .before .byte-at .ensures, most)
+
+  -- what is left of the ports ends the whole
+  ended : (c : lts.At-loop calls (Pre t) Post Inv-loop μ-loop) (n : ℕ) {a : Answer} {v : World} → freePlaces (at-entry (ready c) .store) ≤ n
+      → Ends (checksAll n (entry (ready c) .args .hub) (c .before .wide .result - c .loop .port) (c .loop .port)) (at-turn c) a tt v
+      → Ends (hubAttach (attachBelow n) (entry (ready c) .args .hub)) (at-entry (ready c)) a tt v
+  ended c n h e =
+      ends-as (hub-attaches _ _) (next (as-ok (c .before .before .before .before .before .enum-told .given .1) (ready c .ready-hub .ensures))
+      (got-as _ _ _ (c .before .wide .ensures .0 ∙ c .before .before .byte-at .ensures)
+      (ends-with (c .loop .inv .goes n (omega (arith, readied (ready c) .free))) e)))
+
+  same-store : (c : lts.At-loop calls (Pre t) Post Inv-loop μ-loop) → length (c .loop .store) ≡ length (at-entry (ready c) .store)
+  same-store c = c .loop .inv .goes _ (le-refl _) .store ∙ ready c .ready-hub .kept .0
+
+  same-log : (c : lts.At-loop calls (Pre t) Post Inv-loop μ-loop) → length (c .loop .log) ≡ length (at-entry (ready c) .log)
+  same-log c = c .loop .inv .goes _ (le-refl _) .log ∙ ready c .ready-hub .kept .1 .0
+
+  -- ---- the needs
+
+  ready-hub-requires : lts.Need-ready-hub-requires calls (Pre t) Post Inv-loop μ-loop
+  ready-hub-requires c κs =
+      let pre = c .before .before .before .before .before .pre .1 in
+      (pre .fit, pre .inside)
+
+  returns : lts.Need-returns calls (Pre t) Post Inv-loop μ-loop
+  returns c n h =
+      let call = c .before .before .before .before .before in
+      ends-as (hub-attaches _ _) (next-ended _ _ (call .ready-hub .ensures) (not-ok _ (c .match .keys2)))
+
+  loop-holds : lts.Need-loop-holds calls (Pre t) Post Inv-loop μ-loop
   loop-holds c =
-      let s = ready-after (c .before .before .before .before .before .before .before .before .before .before .before .before .before .before .before .before .pre .1) (c .before .before .before .before .before .before .before .before .before .before .ready-hub .ensures) in
-      record { after = record { bus = s .bus; free = le-refl _ }; goes = λ n h. each-starts _ _ _ refl (going _ (s .bus .fit)) }
+      let bus = readied (c .before .before .before .before .before .before .before .before .before .before) .bus in
+      record { after = record { bus = bus; free = le-refl _ }; goes = λ n h. each-starts _ _ _ refl (going _ (bus .fit)) }
 
-  pub hub-check-connection-requires : hub-attach-lts.Need-hub-check-connection-requires calls (hub-attach-at t) hub-attach.Post Inv-loop μ-loop
+  hub-check-connection-requires : lts.Need-hub-check-connection-requires calls (Pre t) Post Inv-loop μ-loop
   hub-check-connection-requires c κs =
-      let s = ready-after (c .before .before .before .before .before .before .before .before .before .before .before .before .before .before .before .before .before .before .before .before .pre .1) (c .before .before .before .before .before .before .before .before .before .before .before .before .before .before .ready-hub .ensures) in
-      (omega (arith, c .before .before .before .before .before .before .before .before .before .before .before .before .before .before .before .before .before .before .before .before .pre .0, s .free, c .before .before .before .loop .inv .after .free), (c .before .before .before .loop .inv .after .bus, omega (arith, c .before .before .loop-test .taken, c .before .before .before .before .wide .ensures .0, c .before .before .before .before .before .byte-at .ensures, s .bus .good .most (c .before .before .before .before .before .before .before .before .before .before .before .before .before .before .before .before .before .before .before .before .args .hub))))
+      let at = c .before .before .before in
+      let after = at .loop .inv .after in
+      (omega (arith, entry (ready at) .pre .0, readied (ready at) .free, after .free), (after .bus, low (c .before .before)))
 
-  pub ignore-requires : hub-attach-lts.Need-ignore-requires calls (hub-attach-at t) hub-attach.Post Inv-loop μ-loop
-  ignore-requires c κs = search needs
-
-  pub enum-told-2 : hub-attach-lts.Need-enum-told-2 calls (hub-attach-at t) hub-attach.Post Inv-loop μ-loop
-  enum-told-2 c = search needs
-
-  pub same-length-3 : hub-attach-lts.Need-same-length-3 calls (hub-attach-at t) hub-attach.Post Inv-loop μ-loop
-  same-length-3 c = c .before .before .before .before .before .before .hub-check-connection .kept .0 ∙ c .before .before .before .before .before .before .before .before .before .before .loop .inv .goes _ (le-refl _) .store ∙ c .before .before .before .before .before .before .before .before .before .before .before .before .before .before .before .before .before .before .before .before .before .ready-hub .kept .0
-
-  pub same-length-4 : hub-attach-lts.Need-same-length-4 calls (hub-attach-at t) hub-attach.Post Inv-loop μ-loop
-  same-length-4 c = c .before .before .before .before .before .before .hub-check-connection .kept .1 .0 ∙ c .before .before .before .before .before .before .before .before .before .before .loop .inv .goes _ (le-refl _) .log ∙ c .before .before .before .before .before .before .before .before .before .before .before .before .before .before .before .before .before .before .before .before .before .ready-hub .kept .1 .0
-
-  pub returns-2 : hub-attach-lts.Need-returns-2 calls (hub-attach-at t) hub-attach.Post Inv-loop μ-loop
+  returns-2 : lts.Need-returns-2 calls (Pre t) Post Inv-loop μ-loop
   returns-2 c n h =
-      let s = ready-after (c .before .before .before .before .before .before .before .before .before .before .before .before .before .before .before .before .before .before .before .before .before .before .before .before .before .before .before .pre .1) (c .before .before .before .before .before .before .before .before .before .before .before .before .before .before .before .before .before .before .before .before .before .ready-hub .ensures) in
-      ends-as (hub-attaches _ _) (next (rw (c .before .before .before .before .before .before .before .before .before .before .before .before .before .before .before .enum-told .given .1) at (c .before .before .before .before .before .before .before .before .before .before .before .before .before .before .before .before .before .before .before .before .before .ready-hub .ensures)) (got-as _ _ _ (c .before .before .before .before .before .before .before .before .before .before .before .wide .ensures .0 ∙ c .before .before .before .before .before .before .before .before .before .before .before .before .byte-at .ensures)
-      (ends-with (c .before .before .before .before .before .before .before .before .before .before .loop .inv .goes n (omega (arith, s .free)))
-      (each-ended _ _ _ (c .before .before .before .before .before .before .before .before .before .loop-test .taken) (rw (c .before .ignore .ensures) (ignores (c .before .before .before .before .before .before .hub-check-connection .ensures n (omega (arith, s .free, c .before .before .before .before .before .before .before .before .before .before .loop .inv .after .free))))) (not-ok _ (c .match2 .keys2))))))
+      let call = c .before .before .before .before .before .before in
+      let at = turn call .before in
+      let checked = call .hub-check-connection .ensures n (omega (arith, readied (ready at) .free, at .loop .inv .after .free)) in
+      ended at n h
+      (each-ended _ _ _ (turn call .loop-test .taken) (rw (c .before .ignore .ensures) (ignores checked)) (not-ok _ (c .match2 .keys2)))
 
-  pub add-port : hub-attach-lts.Need-add-port calls (hub-attach-at t) hub-attach.Post Inv-loop μ-loop
-  add-port c = search needs
-
-  pub loop-less : hub-attach-lts.Need-loop-less calls (hub-attach-at t) hub-attach.Post Inv-loop μ-loop
-  loop-less c = search needs
-
-  pub loop-again : hub-attach-lts.Need-loop-again calls (hub-attach-at t) hub-attach.Post Inv-loop μ-loop
+  loop-again : lts.Need-loop-again calls (Pre t) Post Inv-loop μ-loop
   loop-again c =
-      let inv = c .before .before .before .before .before .before .before .before .before .before .before .before .loop .inv in
+      let call = c .before .before .before .before .before .before .before .before in
+      let check = call .hub-check-connection in
+      let inv = turn call .before .loop .inv in
       let ignored = c .before .before .before .ignore .ensures in
       let ok = ap (λ (step : Step). step .answer) (sym ignored) ∙ c .before .enum-told2 .given .1 in
-      let s = ready-after (c .before .before .before .before .before .before .before .before .before .before .before .before .before .before .before .before .before .before .before .before .before .before .before .before .before .before .before .before .before .pre .1) (c .before .before .before .before .before .before .before .before .before .before .before .before .before .before .before .before .before .before .before .before .before .before .before .ready-hub .ensures) in
-      let low : c .before .before .before .before .before .before .before .before .before .before .before .before .loop .port < 10 = omega (arith, c .before .before .before .before .before .before .before .before .before .before .before .loop-test .taken, c .before .before .before .before .before .before .before .before .before .before .before .before .before .wide .ensures .0, c .before .before .before .before .before .before .before .before .before .before .before .before .before .before .byte-at .ensures, s .bus .good .most (c .before .before .before .before .before .before .before .before .before .before .before .before .before .before .before .before .before .before .before .before .before .before .before .before .before .before .before .before .before .args .hub)) in
-      let k = checked-after _ (inv .after .bus) low (c .before .before .before .before .before .before .before .before .hub-check-connection .ensures _ (le-refl _)) in
+      let k = checked-after _ (inv .after .bus) (low (turn call)) (check .ensures _ (le-refl _)) in
       record {
         after = rw ignored (record { bus = k .bus; free = omega (arith, k .free, inv .after .free) });
-        goes = λ n h. each-goes _ _ _ (c .before .before .before .before .before .before .before .before .before .before .before .loop-test .taken) (inv .goes n h) (rw ignored (rw ok at (ignores (c .before .before .before .before .before .before .before .before .hub-check-connection .ensures n (omega (arith, inv .after .free)))))) (c .before .before .before .before .before .before .before .before .hub-check-connection .kept .0) (c .before .before .before .before .before .before .before .before .hub-check-connection .kept .1 .0);
+        goes = λ n h.
+            each-goes _ _ _ (turn call .loop-test .taken) (inv .goes n h)
+            (rw ignored (rw ok at (ignores (check .ensures n (omega (arith, inv .after .free)))))) (check .kept .0) (check .kept .1 .0);
       }
 
-  pub same-length-5 : hub-attach-lts.Need-same-length-5 calls (hub-attach-at t) hub-attach.Post Inv-loop μ-loop
-  same-length-5 c = c .before .loop .inv .goes _ (le-refl _) .store ∙ c .before .before .before .before .before .before .before .before .before .before .before .before .ready-hub .kept .0
+  returns-3 : lts.Need-returns-3 calls (Pre t) Post Inv-loop μ-loop
+  returns-3 c n h = ended (c .before) n h (each-last _ _ _ (c .loop-test .left) (c .before .loop .inv .after .bus .fit))
 
-  pub same-length-6 : hub-attach-lts.Need-same-length-6 calls (hub-attach-at t) hub-attach.Post Inv-loop μ-loop
-  same-length-6 c = c .before .loop .inv .goes _ (le-refl _) .log ∙ c .before .before .before .before .before .before .before .before .before .before .before .before .ready-hub .kept .1 .0
-
-  pub returns-3 : hub-attach-lts.Need-returns-3 calls (hub-attach-at t) hub-attach.Post Inv-loop μ-loop
-  returns-3 c n h =
-      let s = ready-after (c .before .before .before .before .before .before .before .before .before .before .before .before .before .before .before .before .before .before .pre .1) (c .before .before .before .before .before .before .before .before .before .before .before .before .ready-hub .ensures) in
-      ends-as (hub-attaches _ _) (next (rw (c .before .before .before .before .before .before .enum-told .given .1) at (c .before .before .before .before .before .before .before .before .before .before .before .before .ready-hub .ensures)) (got-as _ _ _ (c .before .before .wide .ensures .0 ∙ c .before .before .before .byte-at .ensures)
-      (ends-with (c .before .loop .inv .goes n (omega (arith, s .free))) (each-last _ _ _ (c .loop-test .left) (c .before .loop .inv .after .bus .fit)))))
+  pub met : {M : Type 1} → lts.Closed calls (Pre t) Post M
+  met =
+      lts.spec calls (Pre t) Post Inv-loop μ-loop
+      ready-hub-requires (λ c. search needs) (λ c. search needs) (λ c. search needs) returns
+      (λ c κs. search needs) (λ c κs. search needs) loop-holds
+      hub-check-connection-requires (λ c κs. search needs) (λ c. search needs)
+      (λ c. let call = c .before .before .before .before .before .before in call .hub-check-connection .kept .0 ∙ same-store (turn call .before))
+      (λ c. let call = c .before .before .before .before .before .before in call .hub-check-connection .kept .1 .0 ∙ same-log (turn call .before))
+      returns-2
+      (λ c. search needs) (λ c. search needs) loop-again
+      (λ c. same-store (c .before)) (λ c. same-log (c .before)) returns-3

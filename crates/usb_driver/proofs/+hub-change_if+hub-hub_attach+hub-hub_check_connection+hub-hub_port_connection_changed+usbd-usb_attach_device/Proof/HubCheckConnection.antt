@@ -1,93 +1,139 @@
--- What `hub_check_connection` is left to show. Assumes nothing.
+-- `hub_check_connection` meets its contract, if its calls do. Assumes nothing.
 use Prim.Native.Nat.{ℕ}
 use borrow.Author.Needs.{needs}
-use mathlib.Core.Path.{_∙_}
+use mathlib.Core.Path.{_≡_, _∙_}
+use lib.ListN.{length}
 use native.Mathlib.Omega.{arith}
 use native.Mathlib.Nat.{le-refl}
-use Rattle.usb_transfer.proofs.Steps.{not-ok, bound, bound-ended, next, next-ended}
-use Rattle.usb_driver.proofs.Reaches.{started-after, changed-after}
-use Rattle.usb_driver.proofs.Lines.{ends-as, checks}
+use denote.Ref.{now}
+use Rattle.usb_types.specs.declared.types.Answer.the-variants.{Ok}
+use Rattle.usb_model.specs.World.{World}
+use Rattle.usb_transfer.specs.Runs.{here, Ends}
+use Rattle.usb_transfer.proofs.Steps.{as-ok, not-ok, bound, bound-ended, next, next-ended}
+use Rattle.usb_check.specs.Parts.{startCheck}
+use Rattle.usb_check.proofs.start_check.Reads as start-check
+use Rattle.usb_check.proofs.end_check.Reads as end-check
+use Rattle.usb_driver.proofs.Reaches.{After, started-after, changed-after}
+use Rattle.usb_driver.proofs.Lines.{checks}
+use Rattle.usb_transfer.proofs.Regroups.{ends-as}
 use Rattle.usb_driver.proofs.hub.change_if.Reads as change-if
-use Rattle.usb_driver.proofs.hub.hub_check_connection.Reads as hub-check-connection
-use Rattle.usb_driver.proofs.+hub-change_if+hub-hub_attach+hub-hub_check_connection+hub-hub_port_connection_changed+usbd-usb_attach_device.Lts-hub-hub_check_connection as hub-check-connection-lts
-use Rattle.usb_check.proofs.end_check.Reads as end-check-reads
-use Rattle.usb_check.proofs.start_check.Reads as start-check-reads
-use Rattle.usb_driver.proofs.+hub-change_if+hub-hub_attach+hub-hub_check_connection+hub-hub_port_connection_changed+usbd-usb_attach_device.Proof.Measures.{hub-check-connection-at, change-if-below}
+use Rattle.usb_driver.proofs.hub.hub_check_connection.Reads.{Post}
+use Rattle.usb_driver.proofs.+hub-change_if+hub-hub_attach+hub-hub_check_connection+hub-hub_port_connection_changed+usbd-usb_attach_device as cycle
+use cycle.Lts-hub-hub_check_connection as lts
+use cycle.Proof.Measures.{hub-check-connection-at as Pre, change-if-below}
 
 module _ (t : ℕ) where
-  abbrev pub calls : hub-check-connection-lts.Claims
-  calls = (start-check-reads.Asked, start-check-reads.Learnt, change-if-below t, change-if.Post, end-check-reads.Asked, end-check-reads.Learnt)
+  abbrev calls : lts.Claims
+  calls = (start-check.Asked, start-check.Learnt, change-if-below t, change-if.Post, end-check.Asked, end-check.Learnt)
 
-  pub start-check-requires : hub-check-connection-lts.Need-start-check-requires calls (hub-check-connection-at t) hub-check-connection.Post
-  start-check-requires c κs = (c .before .before .before .before .before .pre .1 .0 .fit, c .before .before .before .before .before .pre .1 .0 .inside, c .before .before .before .before .before .pre .1 .1)
+  -- ---- the places, from the last call to the entry
 
-  pub enum-told : hub-check-connection-lts.Need-enum-told calls (hub-check-connection-at t) hub-check-connection.Post
-  enum-told c = search needs
+  abbrev entry : lts.After-start-check calls (Pre t) Post → lts.Start calls (Pre t) Post
+  entry c = c .before .before .before .before .before .before
 
-  pub same-length : hub-check-connection-lts.Need-same-length calls (hub-check-connection-at t) hub-check-connection.Post
-  same-length c = search needs
+  abbrev found : lts.After-change-if calls (Pre t) Post → lts.After-start-check calls (Pre t) Post
+  found c = c .before .before .before .before .before .before .before .before .before .before .before .before
 
-  pub same-length-2 : hub-check-connection-lts.Need-same-length-2 calls (hub-check-connection-at t) hub-check-connection.Post
-  same-length-2 c = search needs
+  abbrev first : lts.After-change-if2 calls (Pre t) Post → lts.After-change-if calls (Pre t) Post
+  first c = c .before .before .before .before .before .before .before .before .before .before
 
-  pub returns : hub-check-connection-lts.Need-returns calls (hub-check-connection-at t) hub-check-connection.Post
-  returns c n h = ends-as (checks _ _ _) (bound-ended _ _ (c .before .before .before .before .before .before .before .start-check .ensures .ends) (not-ok _ (c .match .keys2)))
+  abbrev second : lts.After-end-check calls (Pre t) Post → lts.After-change-if2 calls (Pre t) Post
+  second c = c .before .before .before .before .before .before .before .before .before .before
 
-  pub change-if-requires : hub-check-connection-lts.Need-change-if-requires calls (hub-check-connection-at t) hub-check-connection.Post
+  -- ---- the bus there
+
+  abbrev at-entry : lts.After-start-check calls (Pre t) Post → World
+  at-entry c = here (now (entry c .args .store)) (now (entry c .args .log)) (now (entry c .args .outcomes)) (entry c .args .at)
+
+  abbrev at-found : lts.After-start-check calls (Pre t) Post → World
+  at-found c = here (c .start-check .last .0) (c .start-check .last .1 .0) (now (entry c .args .outcomes)) (c .start-check .result .step .at)
+
+  abbrev at-first : lts.After-change-if calls (Pre t) Post → World
+  at-first c = here (c .change-if .last .0) (c .change-if .last .1 .0) (now (entry (found c) .args .outcomes)) (c .change-if .result .at)
+
+  started : (c : lts.After-start-check calls (Pre t) Post) → After (entry c .args .hub) (at-entry c) (at-found c)
+  started c = started-after (entry c .pre .1 .0) _ (entry c .pre .1 .1) (c .start-check .ensures .ends)
+
+  changed : (c : lts.After-change-if calls (Pre t) Post) → After (entry (found c) .args .hub) (at-found (found c)) (at-first c)
+  changed c = changed-after _ (started (found c) .bus) (entry (found c) .pre .1 .1) _ (c .change-if .ensures _ (le-refl _))
+
+  -- the definition's first lines, once they answered Ok
+  start : (c : lts.After-change-if calls (Pre t) Post)
+      → Ends (startCheck (entry (found c) .args .hub) (entry (found c) .args .port))
+      (at-entry (found c)) Ok (found c .start-check .result .due) (at-found (found c))
+  start c = as-ok (c .before .before .before .before .enum-told .given .1) (found c .start-check .ensures .ends)
+
+  -- both slices keep their length
+
+  same-store : (c : lts.After-change-if2 calls (Pre t) Post) → length (c .change-if2 .last .0) ≡ length (at-entry (found (first c)) .store)
+  same-store c = c .change-if2 .kept .0 ∙ first c .change-if .kept .0 ∙ found (first c) .start-check .kept .0
+
+  same-log : (c : lts.After-change-if2 calls (Pre t) Post) → length (c .change-if2 .last .1 .0) ≡ length (at-entry (found (first c)) .log)
+  same-log c = c .change-if2 .kept .1 .0 ∙ first c .change-if .kept .1 .0 ∙ found (first c) .start-check .kept .1 .0
+
+  -- ---- the needs; `call` is the place of the last call
+
+  start-check-requires : lts.Need-start-check-requires calls (Pre t) Post
+  start-check-requires c κs =
+      let pre = c .before .before .before .before .before .pre .1 in
+      (pre .0 .fit, pre .0 .inside, pre .1)
+
+  returns : lts.Need-returns calls (Pre t) Post
+  returns c n h =
+      let call = c .before .before .before .before .before .before .before in
+      ends-as (checks _ _ _) (bound-ended _ _ (call .start-check .ensures .ends) (not-ok _ (c .match .keys2)))
+
+  change-if-requires : lts.Need-change-if-requires calls (Pre t) Post
   change-if-requires c κs =
-      let s = started-after (c .before .before .before .before .before .before .before .before .before .before .before .before .before .before .before .before .before .pre .1 .0) _ (c .before .before .before .before .before .before .before .before .before .before .before .before .before .before .before .before .before .pre .1 .1) (c .before .before .before .before .before .before .before .before .before .before .before .start-check .ensures .ends) in
-      (omega (arith, c .before .before .before .before .before .before .before .before .before .before .before .before .before .before .before .before .before .pre .0, s .free), (s .bus, c .before .before .before .before .before .before .before .before .before .before .before .before .before .before .before .before .before .pre .1 .1))
+      let call = c .before .before .before .before .before .before .before .before .before .before .before in
+      (omega (arith, entry call .pre .0, started call .free), (started call .bus, entry call .pre .1 .1))
 
-  pub enum-told-2 : hub-check-connection-lts.Need-enum-told-2 calls (hub-check-connection-at t) hub-check-connection.Post
-  enum-told-2 c = search needs
-
-  pub same-length-3 : hub-check-connection-lts.Need-same-length-3 calls (hub-check-connection-at t) hub-check-connection.Post
-  same-length-3 c = search needs
-
-  pub same-length-4 : hub-check-connection-lts.Need-same-length-4 calls (hub-check-connection-at t) hub-check-connection.Post
-  same-length-4 c = search needs
-
-  pub returns-2 : hub-check-connection-lts.Need-returns-2 calls (hub-check-connection-at t) hub-check-connection.Post
+  returns-2 : lts.Need-returns-2 calls (Pre t) Post
   returns-2 c n h =
-      let s = started-after (c .before .before .before .before .before .before .before .before .before .before .before .before .before .before .before .before .before .before .before .before .before .before .before .pre .1 .0) _ (c .before .before .before .before .before .before .before .before .before .before .before .before .before .before .before .before .before .before .before .before .before .before .before .pre .1 .1) (c .before .before .before .before .before .before .before .before .before .before .before .before .before .before .before .before .before .start-check .ensures .ends) in
-      ends-as (checks _ _ _) (bound _ (rw (c .before .before .before .before .before .before .before .before .before .enum-told .given .1) at (c .before .before .before .before .before .before .before .before .before .before .before .before .before .before .before .before .before .start-check .ensures .ends)) (next-ended _ _ (c .before .before .before .before .before .change-if .ensures n (omega (arith, s .free))) (not-ok _ (c .match2 .keys2))))
+      let call = c .before .before .before .before .before in
+      let change = call .change-if .ensures n (omega (arith, started (found call) .free)) in
+      ends-as (checks _ _ _) (bound _ (start call) (next-ended _ _ change (not-ok _ (c .match2 .keys2))))
 
-  pub change-if-requires-2 : hub-check-connection-lts.Need-change-if-requires-2 calls (hub-check-connection-at t) hub-check-connection.Post
+  change-if-requires-2 : lts.Need-change-if-requires-2 calls (Pre t) Post
   change-if-requires-2 c κs =
-      let s = started-after (c .before .before .before .before .before .before .before .before .before .before .before .before .before .before .before .before .before .before .before .before .before .before .before .before .before .before .before .pre .1 .0) _ (c .before .before .before .before .before .before .before .before .before .before .before .before .before .before .before .before .before .before .before .before .before .before .before .before .before .before .before .pre .1 .1) (c .before .before .before .before .before .before .before .before .before .before .before .before .before .before .before .before .before .before .before .before .before .start-check .ensures .ends) in
-      let f = changed-after _ (s .bus) (c .before .before .before .before .before .before .before .before .before .before .before .before .before .before .before .before .before .before .before .before .before .before .before .before .before .before .before .pre .1 .1) _ (c .before .before .before .before .before .before .before .before .before .change-if .ensures _ (le-refl _)) in
-      (omega (arith, c .before .before .before .before .before .before .before .before .before .before .before .before .before .before .before .before .before .before .before .before .before .before .before .before .before .before .before .pre .0, s .free, f .free), (f .bus, c .before .before .before .before .before .before .before .before .before .before .before .before .before .before .before .before .before .before .before .before .before .before .before .before .before .before .before .pre .1 .1))
+      let call = c .before .before .before .before .before .before .before .before .before in
+      let pre = entry (found call) .pre in
+      (omega (arith, pre .0, started (found call) .free, changed call .free), (changed call .bus, pre .1 .1))
 
-  pub enum-told-3 : hub-check-connection-lts.Need-enum-told-3 calls (hub-check-connection-at t) hub-check-connection.Post
-  enum-told-3 c = search needs
-
-  pub same-length-5 : hub-check-connection-lts.Need-same-length-5 calls (hub-check-connection-at t) hub-check-connection.Post
-  same-length-5 c = c .before .before .before .before .before .change-if2 .kept .0 ∙ c .before .before .before .before .before .before .before .before .before .before .before .before .before .before .before .change-if .kept .0 ∙ c .before .before .before .before .before .before .before .before .before .before .before .before .before .before .before .before .before .before .before .before .before .before .before .before .before .before .before .start-check .kept .0
-
-  pub same-length-6 : hub-check-connection-lts.Need-same-length-6 calls (hub-check-connection-at t) hub-check-connection.Post
-  same-length-6 c = c .before .before .before .before .before .change-if2 .kept .1 .0 ∙ c .before .before .before .before .before .before .before .before .before .before .before .before .before .before .before .change-if .kept .1 .0 ∙ c .before .before .before .before .before .before .before .before .before .before .before .before .before .before .before .before .before .before .before .before .before .before .before .before .before .before .before .start-check .kept .1 .0
-
-  pub returns-3 : hub-check-connection-lts.Need-returns-3 calls (hub-check-connection-at t) hub-check-connection.Post
+  returns-3 : lts.Need-returns-3 calls (Pre t) Post
   returns-3 c n h =
-      let s = started-after (c .before .before .before .before .before .before .before .before .before .before .before .before .before .before .before .before .before .before .before .before .before .before .before .before .before .before .before .before .before .before .before .before .before .pre .1 .0) _ (c .before .before .before .before .before .before .before .before .before .before .before .before .before .before .before .before .before .before .before .before .before .before .before .before .before .before .before .before .before .before .before .before .before .pre .1 .1) (c .before .before .before .before .before .before .before .before .before .before .before .before .before .before .before .before .before .before .before .before .before .before .before .before .before .before .before .start-check .ensures .ends) in
-      let f = changed-after _ (s .bus) (c .before .before .before .before .before .before .before .before .before .before .before .before .before .before .before .before .before .before .before .before .before .before .before .before .before .before .before .before .before .before .before .before .before .pre .1 .1) _ (c .before .before .before .before .before .before .before .before .before .before .before .before .before .before .before .change-if .ensures _ (le-refl _)) in
-      ends-as (checks _ _ _) (bound _ (rw (c .before .before .before .before .before .before .before .before .before .before .before .before .before .before .before .before .before .before .before .enum-told .given .1) at (c .before .before .before .before .before .before .before .before .before .before .before .before .before .before .before .before .before .before .before .before .before .before .before .before .before .before .before .start-check .ensures .ends))
-      (next (rw (c .before .before .before .before .before .before .before .before .before .enum-told2 .given .1) at (c .before .before .before .before .before .before .before .before .before .before .before .before .before .before .before .change-if .ensures n (omega (arith, s .free)))) (next-ended _ _ (c .before .before .before .before .before .change-if2 .ensures n (omega (arith, s .free, f .free))) (not-ok _ (c .match3 .keys2)))))
+      let call = c .before .before .before .before .before in
+      let free = started (found (first call)) .free in
+      let change = first call .change-if .ensures n (omega (arith, free)) in
+      let again = call .change-if2 .ensures n (omega (arith, free, changed (first call) .free)) in
+      ends-as (checks _ _ _) (bound _ (start (first call)) (next (as-ok (call .before .before .before .before .enum-told2 .given .1) change)
+      (next-ended _ _ again (not-ok _ (c .match3 .keys2)))))
 
-  pub end-check-requires : hub-check-connection-lts.Need-end-check-requires calls (hub-check-connection-at t) hub-check-connection.Post
+  end-check-requires : lts.Need-end-check-requires calls (Pre t) Post
   end-check-requires c κs =
-      (c .before .before .before .before .before .before .before .before .before .change-if2 .ensures _ (le-refl _) .fit, c .before .before .before .before .before .before .before .before .before .before .before .before .before .before .before .before .before .before .before .before .before .before .before .before .before .before .before .before .before .before .before .before .before .before .before .before .before .pre .1 .0 .inside, c .before .before .before .before .before .before .before .before .before .before .before .before .before .before .before .before .before .before .before .before .before .before .before .before .before .before .before .before .before .before .before .before .before .before .before .before .before .pre .1 .1)
+      let call = c .before .before .before .before .before .before .before .before .before in
+      let pre = entry (found (first call)) .pre .1 in
+      (call .change-if2 .ensures _ (le-refl _) .fit, pre .0 .inside, pre .1)
 
-  pub same-length-7 : hub-check-connection-lts.Need-same-length-7 calls (hub-check-connection-at t) hub-check-connection.Post
-  same-length-7 c = c .before .before .before .before .end-check .kept .0 ∙ c .before .before .before .before .before .before .before .before .before .before .before .before .before .before .change-if2 .kept .0 ∙ c .before .before .before .before .before .before .before .before .before .before .before .before .before .before .before .before .before .before .before .before .before .before .before .before .change-if .kept .0 ∙ c .before .before .before .before .before .before .before .before .before .before .before .before .before .before .before .before .before .before .before .before .before .before .before .before .before .before .before .before .before .before .before .before .before .before .before .before .start-check .kept .0
-
-  pub same-length-8 : hub-check-connection-lts.Need-same-length-8 calls (hub-check-connection-at t) hub-check-connection.Post
-  same-length-8 c = c .before .before .before .before .end-check .kept .1 .0 ∙ c .before .before .before .before .before .before .before .before .before .before .before .before .before .before .change-if2 .kept .1 .0 ∙ c .before .before .before .before .before .before .before .before .before .before .before .before .before .before .before .before .before .before .before .before .before .before .before .before .change-if .kept .1 .0 ∙ c .before .before .before .before .before .before .before .before .before .before .before .before .before .before .before .before .before .before .before .before .before .before .before .before .before .before .before .before .before .before .before .before .before .before .before .before .start-check .kept .1 .0
-
-  pub returns-4 : hub-check-connection-lts.Need-returns-4 calls (hub-check-connection-at t) hub-check-connection.Post
+  returns-4 : lts.Need-returns-4 calls (Pre t) Post
   returns-4 c n h =
-      let s = started-after (c .before .before .before .before .before .before .before .before .before .before .before .before .before .before .before .before .before .before .before .before .before .before .before .before .before .before .before .before .before .before .before .before .before .before .before .before .before .before .before .before .before .before .pre .1 .0) _ (c .before .before .before .before .before .before .before .before .before .before .before .before .before .before .before .before .before .before .before .before .before .before .before .before .before .before .before .before .before .before .before .before .before .before .before .before .before .before .before .before .before .before .pre .1 .1) (c .before .before .before .before .before .before .before .before .before .before .before .before .before .before .before .before .before .before .before .before .before .before .before .before .before .before .before .before .before .before .before .before .before .before .before .before .start-check .ensures .ends) in
-      let f = changed-after _ (s .bus) (c .before .before .before .before .before .before .before .before .before .before .before .before .before .before .before .before .before .before .before .before .before .before .before .before .before .before .before .before .before .before .before .before .before .before .before .before .before .before .before .before .before .before .pre .1 .1) _ (c .before .before .before .before .before .before .before .before .before .before .before .before .before .before .before .before .before .before .before .before .before .before .before .before .change-if .ensures _ (le-refl _)) in
-      ends-as (checks _ _ _) (bound _ (rw (c .before .before .before .before .before .before .before .before .before .before .before .before .before .before .before .before .before .before .before .before .before .before .before .before .before .before .before .before .enum-told .given .1) at (c .before .before .before .before .before .before .before .before .before .before .before .before .before .before .before .before .before .before .before .before .before .before .before .before .before .before .before .before .before .before .before .before .before .before .before .before .start-check .ensures .ends))
-      (next (rw (c .before .before .before .before .before .before .before .before .before .before .before .before .before .before .before .before .before .before .enum-told2 .given .1) at (c .before .before .before .before .before .before .before .before .before .before .before .before .before .before .before .before .before .before .before .before .before .before .before .before .change-if .ensures n (omega (arith, s .free))))
-      (next (rw (c .before .before .before .before .before .before .before .before .enum-told3 .given .1) at (c .before .before .before .before .before .before .before .before .before .before .before .before .before .before .change-if2 .ensures n (omega (arith, s .free, f .free)))) (c .before .before .before .before .end-check .ensures))))
+      let call = c .before .before .before .before in
+      let begun = first (second call) in
+      let free = started (found begun) .free in
+      let change = begun .change-if .ensures n (omega (arith, free)) in
+      let again = second call .change-if2 .ensures n (omega (arith, free, changed begun .free)) in
+      ends-as (checks _ _ _) (bound _ (start begun) (next (as-ok (second call .before .before .before .before .enum-told2 .given .1) change)
+      (next (as-ok (call .before .before .before .before .enum-told3 .given .1) again) (call .end-check .ensures))))
+
+  pub met : {M : Type 1} → lts.Closed calls (Pre t) Post M
+  met =
+      lts.spec calls (Pre t) Post
+      start-check-requires (λ c. search needs) (λ c. search needs) (λ c. search needs) returns
+      change-if-requires (λ c. search needs) (λ c. search needs) (λ c. search needs) returns-2
+      change-if-requires-2 (λ c. search needs)
+      (λ c. same-store (c .before .before .before .before .before)) (λ c. same-log (c .before .before .before .before .before))
+      returns-3
+      end-check-requires
+      (λ c. c .before .before .before .before .end-check .kept .0 ∙ same-store (second (c .before .before .before .before)))
+      (λ c. c .before .before .before .before .end-check .kept .1 .0 ∙ same-log (second (c .before .before .before .before)))
+      returns-4

@@ -1,7 +1,7 @@
 -- The measures: eight for each free place, and a stage. A place is taken on the way from a connection change to an attach. Assumes nothing.
-use Prim.Native.Nat.{ℕ, _+_, _*_, _<_}
+use Prim.Native.Nat.{ℕ, _+_, _*_}
 use borrow.Fn.Kinds.{In}
-use borrow.Fn.PlainCycle.{Measures, is, falls, and}
+use borrow.Fn.PlainCycle.{Measures}
 use Rattle.usb_driver.proofs.hub.change_if.Reads as change-if
 use Rattle.usb_driver.proofs.hub.change_if.Kinds as change-if-kinds
 use Rattle.usb_driver.proofs.hub.hub_attach.Reads as hub-attach
@@ -13,6 +13,7 @@ use Rattle.usb_driver.proofs.hub.hub_port_connection_changed.Kinds as h
 use Rattle.usb_driver.proofs.usbd.usb_attach_device.Reads as usb-attach-device
 use Rattle.usb_driver.proofs.usbd.usb_attach_device.Kinds as usb-attach-device-kinds
 use Rattle.usb_device.specs.Device.{freePlaces}
+use Rattle.usb_driver.proofs.Cycles.{given, below}
 
 abbrev pub μ-change-if : Measures 3 change-if-kinds.ps ℕ
 μ-change-if κs a = 8 * freePlaces (a .0 .now) + 1
@@ -32,31 +33,31 @@ abbrev pub μ-usb-attach-device : Measures 3 usb-attach-device-kinds.ps ℕ
 -- what a member is given at the measure t, and what a call of it asks below t
 
 abbrev pub change-if-at : ℕ → In 3 change-if-kinds.ps
-change-if-at t = and 3 change-if-kinds.ps (is 3 change-if-kinds.ps μ-change-if t) change-if.Pre
+change-if-at = given change-if-kinds.ps μ-change-if change-if.Pre
 
 abbrev pub change-if-below : ℕ → In 3 change-if-kinds.ps
-change-if-below t = and 3 change-if-kinds.ps (falls 3 change-if-kinds.ps _<_ μ-change-if t) change-if.Pre
+change-if-below = below change-if-kinds.ps μ-change-if change-if.Pre
 
 abbrev pub hub-attach-at : ℕ → In 3 hub-attach-kinds.ps
-hub-attach-at t = and 3 hub-attach-kinds.ps (is 3 hub-attach-kinds.ps μ-hub-attach t) hub-attach.Pre
+hub-attach-at = given hub-attach-kinds.ps μ-hub-attach hub-attach.Pre
 
 abbrev pub hub-attach-below : ℕ → In 3 hub-attach-kinds.ps
-hub-attach-below t = and 3 hub-attach-kinds.ps (falls 3 hub-attach-kinds.ps _<_ μ-hub-attach t) hub-attach.Pre
+hub-attach-below = below hub-attach-kinds.ps μ-hub-attach hub-attach.Pre
 
 abbrev pub hub-check-connection-at : ℕ → In 3 hub-check-connection-kinds.ps
-hub-check-connection-at t = and 3 hub-check-connection-kinds.ps (is 3 hub-check-connection-kinds.ps μ-hub-check-connection t) hub-check-connection.Pre
+hub-check-connection-at = given hub-check-connection-kinds.ps μ-hub-check-connection hub-check-connection.Pre
 
 abbrev pub hub-check-connection-below : ℕ → In 3 hub-check-connection-kinds.ps
-hub-check-connection-below t = and 3 hub-check-connection-kinds.ps (falls 3 hub-check-connection-kinds.ps _<_ μ-hub-check-connection t) hub-check-connection.Pre
+hub-check-connection-below = below hub-check-connection-kinds.ps μ-hub-check-connection hub-check-connection.Pre
 
 abbrev pub hub-port-connection-changed-at : ℕ → In 3 hub-port-connection-changed-kinds.ps
-hub-port-connection-changed-at t = and 3 hub-port-connection-changed-kinds.ps (is 3 hub-port-connection-changed-kinds.ps μ-hub-port-connection-changed t) hub-port-connection-changed.Pre
+hub-port-connection-changed-at = given hub-port-connection-changed-kinds.ps μ-hub-port-connection-changed hub-port-connection-changed.Pre
 
 abbrev pub hub-port-connection-changed-below : ℕ → In 3 hub-port-connection-changed-kinds.ps
-hub-port-connection-changed-below t = and 3 hub-port-connection-changed-kinds.ps (falls 3 hub-port-connection-changed-kinds.ps _<_ μ-hub-port-connection-changed t) hub-port-connection-changed.Pre
+hub-port-connection-changed-below = below hub-port-connection-changed-kinds.ps μ-hub-port-connection-changed hub-port-connection-changed.Pre
 
 abbrev pub usb-attach-device-at : ℕ → In 3 usb-attach-device-kinds.ps
-usb-attach-device-at t = and 3 usb-attach-device-kinds.ps (is 3 usb-attach-device-kinds.ps μ-usb-attach-device t) usb-attach-device.Pre
+usb-attach-device-at = given usb-attach-device-kinds.ps μ-usb-attach-device usb-attach-device.Pre
 
 abbrev pub usb-attach-device-below : ℕ → In 3 usb-attach-device-kinds.ps
-usb-attach-device-below t = and 3 usb-attach-device-kinds.ps (falls 3 usb-attach-device-kinds.ps _<_ μ-usb-attach-device t) usb-attach-device.Pre
+usb-attach-device-below = below usb-attach-device-kinds.ps μ-usb-attach-device usb-attach-device.Pre

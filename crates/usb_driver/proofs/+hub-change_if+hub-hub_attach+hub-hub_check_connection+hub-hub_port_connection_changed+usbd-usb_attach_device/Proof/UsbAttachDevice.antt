@@ -1,70 +1,78 @@
--- What `usb_attach_device` is left to show. Assumes nothing.
+-- `usb_attach_device` meets its contract, if its calls do. Assumes nothing.
 use Prim.Native.Nat.{ℕ}
 use borrow.Author.Needs.{needs}
 use mathlib.Core.Path.{sym, _∙_}
 use native.Mathlib.Omega.{arith}
-use Rattle.usb_transfer.proofs.Steps.{not-ok, next, next-ended, got-as, done-if, done-unless}
-use Rattle.usb_driver.proofs.Reaches.{enumerated-after, at-fuel}
-use Rattle.usb_driver.proofs.Lines.{ends-as, attaches}
+use denote.Ref.{now}
+use Rattle.usb_types.proofs.descriptors.is_hub_class.Reads as is-hub-class
+use Rattle.usb_store.proofs.byte_at.Reads as byte-at
+use Rattle.usb_transfer.specs.Runs.{here}
+use Rattle.usb_transfer.proofs.Steps.{as-ok, not-ok, next, next-ended, got-as, done-if, done-unless}
+use Rattle.usb_attach.proofs.enumerate.Reads as enumerate
+use Rattle.usb_driver.proofs.Reaches.{After, enumerated-after, at-fuel}
+use Rattle.usb_driver.proofs.Lines.{attaches}
+use Rattle.usb_transfer.proofs.Regroups.{ends-as}
 use Rattle.usb_driver.proofs.hub.hub_attach.Reads as hub-attach
-use Rattle.usb_driver.proofs.usbd.usb_attach_device.Reads as usb-attach-device
-use Rattle.usb_driver.proofs.+hub-change_if+hub-hub_attach+hub-hub_check_connection+hub-hub_port_connection_changed+usbd-usb_attach_device.Lts-usbd-usb_attach_device as usb-attach-device-lts
-use Rattle.usb_attach.proofs.enumerate.Reads as enumerate-reads
-use Rattle.usb_store.proofs.byte_at.Reads as byte-at-reads
-use Rattle.usb_types.proofs.descriptors.is_hub_class.Reads as is-hub-class-reads
-use Rattle.usb_driver.proofs.+hub-change_if+hub-hub_attach+hub-hub_check_connection+hub-hub_port_connection_changed+usbd-usb_attach_device.Proof.Measures.{usb-attach-device-at, hub-attach-below}
+use Rattle.usb_driver.proofs.usbd.usb_attach_device.Reads.{Post}
+use Rattle.usb_driver.proofs.+hub-change_if+hub-hub_attach+hub-hub_check_connection+hub-hub_port_connection_changed+usbd-usb_attach_device as cycle
+use cycle.Lts-usbd-usb_attach_device as lts
+use cycle.Proof.Measures.{usb-attach-device-at as Pre, hub-attach-below}
 
 module _ (t : ℕ) where
-  abbrev pub calls : usb-attach-device-lts.Claims
-  calls = (enumerate-reads.Asked, enumerate-reads.Learnt, byte-at-reads.Asked, byte-at-reads.Learnt, is-hub-class-reads.Asked, is-hub-class-reads.Learnt, hub-attach-below t, hub-attach.Post)
+  abbrev calls : lts.Claims
+  calls = (enumerate.Asked, enumerate.Learnt, byte-at.Asked, byte-at.Learnt, is-hub-class.Asked, is-hub-class.Learnt, hub-attach-below t, hub-attach.Post)
 
-  pub enumerate-requires : usb-attach-device-lts.Need-enumerate-requires calls (usb-attach-device-at t) usb-attach-device.Post
-  enumerate-requires c κs = (c .before .before .before .before .before .pre .1 .fit, c .before .before .before .before .before .pre .1 .inside)
+  -- ---- the places, from the test of the class to the entry
 
-  pub enum-told : usb-attach-device-lts.Need-enum-told calls (usb-attach-device-at t) usb-attach-device.Post
-  enum-told c = search needs
+  abbrev entry : lts.After-enumerate calls (Pre t) Post → lts.Start calls (Pre t) Post
+  entry c = c .before .before .before .before .before .before
 
-  pub same-length : usb-attach-device-lts.Need-same-length calls (usb-attach-device-at t) usb-attach-device.Post
-  same-length c = search needs
+  abbrev described : lts.After-is-hub-class calls (Pre t) Post → lts.After-enumerate calls (Pre t) Post
+  described c = c .before .before .before .before .before .before .before .before .before .before
 
-  pub same-length-2 : usb-attach-device-lts.Need-same-length-2 calls (usb-attach-device-at t) usb-attach-device.Post
-  same-length-2 c = search needs
+  enumerated : (c : lts.After-enumerate calls (Pre t) Post)
+      → After (entry c .args .place)
+      (here (now (entry c .args .store)) (now (entry c .args .log)) (now (entry c .args .outcomes)) (entry c .args .at))
+      (here (c .enumerate .last .0) (c .enumerate .last .1 .0) (now (entry c .args .outcomes)) (c .enumerate .result .at))
+  enumerated c = enumerated-after (entry c .pre .1) (c .enumerate .ensures)
 
-  pub returns : usb-attach-device-lts.Need-returns calls (usb-attach-device-at t) usb-attach-device.Post
-  returns c n h = at-fuel _ _ n h (λ m g. ends-as (attaches _ _) (next-ended _ _ (c .before .before .before .before .before .enumerate .ensures) (not-ok _ (c .match .keys2))))
+  -- ---- the needs
 
-  pub byte-at-requires : usb-attach-device-lts.Need-byte-at-requires calls (usb-attach-device-at t) usb-attach-device.Post
-  byte-at-requires c κs = search needs
+  enumerate-requires : lts.Need-enumerate-requires calls (Pre t) Post
+  enumerate-requires c κs =
+      let pre = c .before .before .before .before .before .pre .1 in
+      (pre .fit, pre .inside)
 
-  pub is-hub-class-requires : usb-attach-device-lts.Need-is-hub-class-requires calls (usb-attach-device-at t) usb-attach-device.Post
-  is-hub-class-requires c κs = search needs
+  returns : lts.Need-returns calls (Pre t) Post
+  returns c n h =
+      let call = c .before .before .before .before .before in
+      at-fuel _ _ n h (λ m g. ends-as (attaches _ _) (next-ended _ _ (call .enumerate .ensures) (not-ok _ (c .match .keys2))))
 
-  pub hub-attach-requires : usb-attach-device-lts.Need-hub-attach-requires calls (usb-attach-device-at t) usb-attach-device.Post
+  hub-attach-requires : lts.Need-hub-attach-requires calls (Pre t) Post
   hub-attach-requires c κs =
-      let s = enumerated-after (c .before .before .before .before .before .before .before .before .before .before .before .before .before .before .before .before .before .before .before .pre .1) (c .before .before .before .before .before .before .before .before .before .before .before .before .before .enumerate .ensures) in
-      (omega (arith, c .before .before .before .before .before .before .before .before .before .before .before .before .before .before .before .before .before .before .before .pre .0, s .free), s .bus)
+      let call = described (c .before .before .before) in
+      (omega (arith, entry call .pre .0, enumerated call .free), enumerated call .bus)
 
-  pub same-length-3 : usb-attach-device-lts.Need-same-length-3 calls (usb-attach-device-at t) usb-attach-device.Post
-  same-length-3 c = search needs
-
-  pub same-length-4 : usb-attach-device-lts.Need-same-length-4 calls (usb-attach-device-at t) usb-attach-device.Post
-  same-length-4 c = search needs
-
-  pub returns-2 : usb-attach-device-lts.Need-returns-2 calls (usb-attach-device-at t) usb-attach-device.Post
+  returns-2 : lts.Need-returns-2 calls (Pre t) Post
   returns-2 c n h =
-      let s = enumerated-after (c .before .before .before .before .before .before .before .before .before .before .before .before .before .before .before .before .before .before .before .before .before .before .before .before .pre .1) (c .before .before .before .before .before .before .before .before .before .before .before .before .before .before .before .before .before .before .enumerate .ensures) in
-      at-fuel _ _ n h (λ m g. ends-as (attaches _ _) (next (rw (c .before .before .before .before .before .before .before .before .before .before .before .before .enum-told .given .1) at (c .before .before .before .before .before .before .before .before .before .before .before .before .before .before .before .before .before .before .enumerate .ensures))
-      (got-as _ _ _ (c .before .before .before .before .before .before .before .before .before .byte-at .ensures) (done-if (sym (c .before .before .before .before .before .before .before .before .is-hub-class .ensures) ∙ c .before .before .before .before .before .before .before .if1 .taken) (c .before .before .before .before .hub-attach .ensures m (omega (arith, s .free)))))))
+      let test = c .before .before .before .before .before .before .before .before in
+      let hub = sym (test .is-hub-class .ensures) ∙ c .before .before .before .before .before .before .before .if1 .taken in
+      let ready = as-ok (test .before .before .before .before .enum-told .given .1) (described test .enumerate .ensures) in
+      at-fuel _ _ n h (λ m g. ends-as (attaches _ _) (next ready (got-as _ _ _ (test .before .byte-at .ensures)
+      (done-if hub (c .before .before .before .before .hub-attach .ensures m (omega (arith, enumerated (described test) .free)))))))
 
-  pub same-length-5 : usb-attach-device-lts.Need-same-length-5 calls (usb-attach-device-at t) usb-attach-device.Post
-  same-length-5 c = search needs
-
-  pub same-length-6 : usb-attach-device-lts.Need-same-length-6 calls (usb-attach-device-at t) usb-attach-device.Post
-  same-length-6 c = search needs
-
-  pub returns-3 : usb-attach-device-lts.Need-returns-3 calls (usb-attach-device-at t) usb-attach-device.Post
+  returns-3 : lts.Need-returns-3 calls (Pre t) Post
   returns-3 c n h =
-      let ok = c .before .before .before .before .before .enum-told .given .1 in
-      let described = rw ok at (c .before .before .before .before .before .before .before .before .before .before .before .enumerate .ensures) in
-      rw ok (at-fuel _ _ n h (λ m g. ends-as (attaches _ _) (next described
-      (got-as _ _ _ (c .before .before .byte-at .ensures) (done-unless _ (sym (c .before .is-hub-class .ensures) ∙ c .if1 .left) (described .fit))))))
+      let test = c .before in
+      let ok = test .before .before .before .before .enum-told .given .1 in
+      let ready = as-ok ok (described test .enumerate .ensures) in
+      rw ok (at-fuel _ _ n h (λ m g. ends-as (attaches _ _) (next ready (got-as _ _ _ (test .before .byte-at .ensures)
+      (done-unless _ (sym (test .is-hub-class .ensures) ∙ c .if1 .left) (ready .fit))))))
+
+  pub met : {M : Type 1} → lts.Closed calls (Pre t) Post M
+  met =
+      lts.spec calls (Pre t) Post
+      enumerate-requires (λ c. search needs) (λ c. search needs) (λ c. search needs) returns
+      (λ c κs. search needs) (λ c κs. search needs)
+      hub-attach-requires (λ c. search needs) (λ c. search needs) returns-2
+      (λ c. search needs) (λ c. search needs) returns-3

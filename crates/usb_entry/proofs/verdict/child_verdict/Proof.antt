@@ -20,11 +20,15 @@ is-unused-requires c κs =
 
 returns-2 : tie.Need-returns-2
 returns-2 c new outcomes log e =
-    tested _ _ _ _ (c .before .before .before .before .hub-verdict .ensures new outcomes log e) (c .before .before .enum-told .given .1) true (sym (c .if1 .taken) ∙ c .before .is-unused .ensures new outcomes log)
+    let told = c .before .before in
+    let unused = sym (c .if1 .taken) ∙ c .before .is-unused .ensures new outcomes log in
+    tested _ _ _ _ (told .before .before .hub-verdict .ensures new outcomes log e) (told .enum-told .given .1) true unused
 
 returns-3 : tie.Need-returns-3
 returns-3 c new outcomes log e =
-    tested _ _ _ _ (c .before .before .before .before .hub-verdict .ensures new outcomes log e) (c .before .before .enum-told .given .1) false (sym (c .if1 .left) ∙ c .before .is-unused .ensures new outcomes log)
+    let told = c .before .before in
+    let unused = sym (c .if1 .left) ∙ c .before .is-unused .ensures new outcomes log in
+    tested _ _ _ _ (told .before .before .hub-verdict .ensures new outcomes log e) (told .enum-told .given .1) false unused
 
 pub child-verdict-spec : {M : Type 1} → statement M
 child-verdict-spec =

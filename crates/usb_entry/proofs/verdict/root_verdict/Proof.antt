@@ -16,7 +16,9 @@ returns-2 c new outcomes log e =
 
 returns-3 : tie.Need-returns-3
 returns-3 c new outcomes log e =
-    root-damaged _ _ (sym (c .before .before .before .if1 .left) ∙ c .before .before .before .before .wrong-length .ensures new outcomes log e) (c .before .before .if2 .left) (sym (c .if3 .taken) ∙ ap not (c .before .sound .ensures .0))
+    let second = c .before .before in
+    let lengths = sym (second .before .if1 .left) ∙ second .before .before .wrong-length .ensures new outcomes log e in
+    root-damaged _ _ lengths (second .if2 .left) (sym (c .if3 .taken) ∙ ap not (c .before .sound .ensures .0))
 
 byte-at-requires : tie.Need-byte-at-requires
 byte-at-requires c κs = record {
@@ -27,15 +29,27 @@ byte-at-requires c κs = record {
 
 returns-4 : tie.Need-returns-4
 returns-4 c new outcomes log e =
-    root-attached _ _ (sym (c .before .before .before .before .before .if1 .left) ∙ c .before .before .before .before .before .before .wrong-length .ensures new outcomes log e) (c .before .before .before .before .if2 .left) (sym (c .before .before .if3 .left) ∙ ap not (c .before .before .before .sound .ensures .0)) (λ z. c .if4 .taken (c .before .byte-at .ensures ∙ z))
+    let third = c .before .before in
+    let second = third .before .before in
+    let lengths = sym (second .before .if1 .left) ∙ second .before .before .wrong-length .ensures new outcomes log e in
+    let sound = sym (third .if3 .left) ∙ ap not (third .before .sound .ensures .0) in
+    root-attached _ _ lengths (second .if2 .left) sound (λ z. c .if4 .taken (c .before .byte-at .ensures ∙ z))
 
 returns-5 : tie.Need-returns-5
 returns-5 c new outcomes log e =
-    root-no-speed _ _ (sym (c .before .before .before .before .before .before .if1 .left) ∙ c .before .before .before .before .before .before .before .wrong-length .ensures new outcomes log e) (c .before .before .before .before .before .if2 .left) (sym (c .before .before .before .if3 .left) ∙ ap not (c .before .before .before .before .sound .ensures .0)) (sym (c .before .before .byte-at .ensures) ∙ c .before .if4 .left) (c .match .keys1)
+    let third = c .before .before .before in
+    let second = third .before .before in
+    let lengths = sym (second .before .if1 .left) ∙ second .before .before .wrong-length .ensures new outcomes log e in
+    let sound = sym (third .if3 .left) ∙ ap not (third .before .sound .ensures .0) in
+    root-no-speed _ _ lengths (second .if2 .left) sound (sym (c .before .before .byte-at .ensures) ∙ c .before .if4 .left) (c .match .keys1)
 
 returns-6 : tie.Need-returns-6
 returns-6 c new outcomes log e =
-    root-accepted _ _ (sym (c .before .before .before .before .before .before .if1 .left) ∙ c .before .before .before .before .before .before .before .wrong-length .ensures new outcomes log e) (c .before .before .before .before .before .if2 .left) (sym (c .before .before .before .if3 .left) ∙ ap not (c .before .before .before .before .sound .ensures .0)) (sym (c .before .before .byte-at .ensures) ∙ c .before .if4 .left) (c .match .rest .1)
+    let third = c .before .before .before in
+    let second = third .before .before in
+    let lengths = sym (second .before .if1 .left) ∙ second .before .before .wrong-length .ensures new outcomes log e in
+    let sound = sym (third .if3 .left) ∙ ap not (third .before .sound .ensures .0) in
+    root-accepted _ _ lengths (second .if2 .left) sound (sym (c .before .before .byte-at .ensures) ∙ c .before .if4 .left) (c .match .rest .1)
 
 pub root-verdict-spec : {M : Type 1} → statement M
 root-verdict-spec =

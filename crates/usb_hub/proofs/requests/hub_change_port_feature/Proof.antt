@@ -8,7 +8,8 @@ use Rattle.usb_hub.proofs.requests.hub_change_port_feature.Tie as tie
 returns : tie.Need-returns
 unfolding hubChangePortFeature
 returns c =
-    dropped (rw (c .before .before .before .before .before .before .before .before .feature-request .ensures) at (c .before .before .before .before .before .control .ensures .ends))
+    let call = c .before .before .before .before .before in
+    dropped (rw (call .before .before .before .feature-request .ensures) at (call .control .ensures .ends))
 
 pub hub-change-port-feature-spec : {M : Type 1} → statement M
 hub-change-port-feature-spec =

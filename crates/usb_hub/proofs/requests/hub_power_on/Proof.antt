@@ -16,18 +16,24 @@ returns c =
 returns-2 : tie.Need-returns-2
 unfolding hubPowerOn powerPorts
 returns-2 c =
-    let test = c .before .before .before .before .before .before .before .before .before .before .before .before .before .before in
-    let ports = rw (c .before .before .before .before .before .before .before .before .before .before .before .wide .ensures .0, c .before .before .before .before .before .before .before .before .before .before .before .before .byte-at2 .ensures) at (c .before .before .before .before .before .power-ports .ensures) in
+    let power = c .before .before .before .before .before in
+    let count = power .before .before .before .before .before .before in
+    let test = count .before .before .before in
+    let ports = rw (count .wide .ensures .0, count .before .byte-at2 .ensures) at (power .power-ports .ensures) in
     got _ _ _ (done-if (eq-eqb _ _ (rw (test .before .byte-at .ensures) at (test .if1 .left)))
     (got _ _ _ (got _ _ _ (next-ended _ _ ports (not-ok _ (c .match .keys2))))))
 
 returns-3 : tie.Need-returns-3
 unfolding hubPowerOn powerPorts
 returns-3 c =
-    let power = c .before .before .before .before .before .before .before .before .before .before .before in
-    let test = c .before .before .before .before .before .before .before .before .before .before .before .before .before .before .before .before .before .before .before .before in
-    let ports = rw (c .before .before .before .before .before .enum-told .given .1, c .before .before .before .before .before .before .before .before .before .before .before .before .before .before .before .before .before .wide .ensures .0, c .before .before .before .before .before .before .before .before .before .before .before .before .before .before .before .before .before .before .byte-at2 .ensures) at (power .power-ports .ensures) in
-    let waited = rw (c .before .before .before .before .before .before .before .before .before .before .before .before .before .before .power-delay .ensures, c .before .before .before .before .before .before .before .before .before .before .before .before .before .before .before .byte-at3 .ensures) at (logged (c .before .before .micro-delay .ensures) (ports .fit)) in
+    let told = c .before .before .before .before .before in
+    let power = told .before .before .before .before .before .before in
+    let delay = power .before .before .before in
+    let count = delay .before .before .before in
+    let test = count .before .before .before in
+    let ports = rw (told .enum-told .given .1, count .wide .ensures .0, count .before .byte-at2 .ensures) at (power .power-ports .ensures) in
+    let wait = logged (c .before .before .micro-delay .ensures) (ports .fit) in
+    let waited = rw (delay .power-delay .ensures, delay .before .byte-at3 .ensures) at wait in
     got _ _ _ (done-if (eq-eqb _ _ (rw (test .before .byte-at .ensures) at (test .if1 .left)))
     (got _ _ _ (got _ _ _ (next ports waited))))
 

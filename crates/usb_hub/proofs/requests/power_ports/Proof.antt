@@ -1,15 +1,14 @@
 -- `usb_hub::requests::power_ports` meets its contract. The loop's invariant: what is left to run is the whole. Assumes nothing.
 use borrow.Author.Needs.{needs}
-use mathlib.Core.Path.{refl, sym, ap, _∙_}
+use mathlib.Core.Path.{refl}
 use Prim.Native.Nat.{_-_}
-use Rattle.usb_transfer.specs.declared.log.Step.{Step}
 use Rattle.usb_model.specs.Programs.{ignore, each}
 use Rattle.usb_model.specs.Features.{PORT-POWER}
 use Rattle.usb_model.specs.Hub.{setPortFeature}
 use Rattle.usb_transfer.specs.Runs.{here}
-use Rattle.usb_transfer.proofs.Steps.{not-ok, Going, going, ends-with, each-starts, each-last, each-ended, each-goes}
+use Rattle.usb_transfer.proofs.Steps.{not-ok, as-ok, Going, going, ends-with, each-starts, each-last, each-ended, each-goes}
 use Rattle.usb_hub.specs.Parts.{powerPorts}
-use Rattle.usb_hub.proofs.Parts.{ignores}
+use Rattle.usb_hub.proofs.Parts.{ignores-as}
 use Rattle.usb_hub.proofs.requests.power_ports.Statement.{statement}
 use Rattle.usb_hub.proofs.requests.power_ports.Tie as tie
 
@@ -31,18 +30,17 @@ change-requires c κs = (c .before .before .before .loop .inv .fit, c .before .b
 returns : tie.Need-returns Inv-loop μ-loop
 returns c =
     let change = c .before .before .before .before .before .before in
-    let head = change .before .before .before .before in
-    ends-with (head .loop .inv)
-    (each-ended _ _ _ (change .before .before .before .loop-test .taken) (rw (c .before .ignore .ensures) (ignores (change .hub-change-port-feature .ensures))) (not-ok _ (c .match .keys2)))
+    let turn = change .before .before .before in
+    let set = ignores-as (c .before .ignore .ensures) (change .hub-change-port-feature .ensures) in
+    ends-with (turn .before .loop .inv) (each-ended _ _ _ (turn .loop-test .taken) set (not-ok _ (c .match .keys2)))
 
 loop-again : tie.Need-loop-again Inv-loop μ-loop
 loop-again c =
     let change = c .before .before .before .before .before .before .before .before in
-    let head = change .before .before .before .before in
-    let ignored = c .before .before .before .ignore .ensures in
-    let ok = ap (λ (step : Step). step .answer) (sym ignored) ∙ c .before .enum-told .given .1 in
-    let done = rw ok at (ignores (change .hub-change-port-feature .ensures)) in
-    each-goes _ _ _ (change .before .before .before .loop-test .taken) (head .loop .inv) (rw ignored done) (change .hub-change-port-feature .kept .0) (change .hub-change-port-feature .kept .1 .0)
+    let turn = change .before .before .before in
+    let set = ignores-as (c .before .before .before .ignore .ensures) (change .hub-change-port-feature .ensures) in
+    let kept = change .hub-change-port-feature .kept in
+    each-goes _ _ _ (turn .loop-test .taken) (turn .before .loop .inv) (as-ok (c .before .enum-told .given .1) set) (kept .0) (kept .1 .0)
 
 returns-2 : tie.Need-returns-2 Inv-loop μ-loop
 returns-2 c = ends-with (c .before .loop .inv) (each-last _ _ _ (c .loop-test .left) (c .before .loop .inv .fit))

@@ -1,111 +1,141 @@
--- What `scan_port` is left to show. Assumes nothing.
-use Prim.Native.Nat.{ℕ}
+-- `scan_port` meets its contract, if its calls do. Assumes nothing.
+use Prim.Native.Nat.{ℕ, _-_, _≤_, _<_}
 use borrow.Author.Needs.{needs}
-use mathlib.Core.Path.{sym, _∙_}
+use mathlib.Core.Path.{_≡_, sym, _∙_}
 use native.Mathlib.Omega.{arith}
 use native.Mathlib.Nat.{le-refl}
-use Rattle.usb_transfer.proofs.Steps.{not-ok}
-use Rattle.usb_device.proofs.HubRecord.{child-at}
-use Rattle.usb_driver.proofs.Reaches.{checked-after}
-use Rattle.usb_scan.proofs.Scans.{child-bus, passes-failed, passes-none, passes-no-hub, goes-below}
+use denote.Ref.{now}
+use Rattle.usb_types.specs.declared.types.Answer.the-variants.{Ok}
+use Rattle.usb_types.proofs.types.wide.Reads as wide
+use Rattle.usb_store.specs.Layout.{Child}
+use Rattle.usb_store.specs.Access.{byteAt}
+use Rattle.usb_store.proofs.byte_at.Reads as byte-at
+use Rattle.usb_device.specs.Device.{freePlaces}
+use Rattle.usb_device.proofs.hub.load_hub.Reads as load-hub
+use Rattle.usb_model.specs.World.{World}
+use Rattle.usb_model.specs.Hub.{hubCheckConnection}
+use Rattle.usb_model.specs.Attach.{attachBelow}
+use Rattle.usb_transfer.specs.Runs.{here, Ends}
+use Rattle.usb_transfer.proofs.Steps.{as-ok, not-ok}
+use Rattle.usb_hub.proofs.ports.child_of.Reads as child-of
+use Rattle.usb_hub.proofs.requests.ignore.Reads as ignore
+use Rattle.usb_driver.specs.Bus.{Bus}
+use Rattle.usb_driver.proofs.Reaches.{After, checked-after}
+use Rattle.usb_driver.proofs.hub.hub_check_connection.Reads as hub-check-connection
+use Rattle.usb_scan.proofs.Scans.{child-read, child-bus, passes-failed, passes-none, passes-no-hub, goes-below}
 use Rattle.usb_scan.proofs.hub_check_for_change.Reads as hub-check-for-change
-use Rattle.usb_scan.proofs.scan_port.Reads as scan-port
-use Rattle.usb_scan.proofs.+hub_check_for_change+scan_port.Lts-scan_port as scan-port-lts
-use Rattle.usb_store.proofs.byte_at.Reads as byte-at-reads
-use Rattle.usb_device.proofs.hub.load_hub.Reads as load-hub-reads
-use Rattle.usb_driver.proofs.hub.hub_check_connection.Reads as hub-check-connection-reads
-use Rattle.usb_hub.proofs.ports.child_of.Reads as child-of-reads
-use Rattle.usb_hub.proofs.requests.ignore.Reads as ignore-reads
-use Rattle.usb_types.proofs.types.wide.Reads as wide-reads
-use Rattle.usb_scan.proofs.+hub_check_for_change+scan_port.Proof.Measures.{scan-port-at, hub-check-for-change-below}
+use Rattle.usb_scan.proofs.scan_port.Reads.{Post}
+use Rattle.usb_scan.proofs.+hub_check_for_change+scan_port.Lts-scan_port as lts
+use Rattle.usb_scan.proofs.+hub_check_for_change+scan_port.Proof.Measures.{scan-port-at as Pre, hub-check-for-change-below}
 
 module _ (t : ℕ) where
-  abbrev pub calls : scan-port-lts.Claims
-  calls = (hub-check-connection-reads.Asked, hub-check-connection-reads.Learnt, ignore-reads.Asked, ignore-reads.Learnt, load-hub-reads.Asked, load-hub-reads.Learnt, child-of-reads.Asked, child-of-reads.Learnt, wide-reads.Asked, wide-reads.Learnt, byte-at-reads.Asked, byte-at-reads.Learnt, hub-check-for-change-below t, hub-check-for-change.Post)
+  abbrev calls : lts.Claims
+  calls = (
+    hub-check-connection.Asked,
+    hub-check-connection.Learnt,
+    ignore.Asked,
+    ignore.Learnt,
+    load-hub.Asked,
+    load-hub.Learnt,
+    child-of.Asked,
+    child-of.Learnt,
+    wide.Asked,
+    wide.Learnt,
+    byte-at.Asked,
+    byte-at.Learnt,
+    hub-check-for-change-below t,
+    hub-check-for-change.Post,
+  )
 
-  pub hub-check-connection-requires : scan-port-lts.Need-hub-check-connection-requires calls (scan-port-at t) scan-port.Post
-  hub-check-connection-requires c κs = c .before .before .before .before .before .pre .1
+  -- ---- the places, from the child's number to the entry
 
-  pub enum-told : scan-port-lts.Need-enum-told calls (scan-port-at t) scan-port.Post
-  enum-told c = search needs
+  abbrev entry : lts.After-hub-check-connection calls (Pre t) Post → lts.Start calls (Pre t) Post
+  entry c = c .before .before .before .before .before .before
 
-  pub ignore-requires : scan-port-lts.Need-ignore-requires calls (scan-port-at t) scan-port.Post
-  ignore-requires c κs = search needs
+  abbrev checked : lts.After-wide calls (Pre t) Post → lts.After-hub-check-connection calls (Pre t) Post
+  checked c = c .before .before .before .before .before .before .before .before .before .before
 
-  pub same-length : scan-port-lts.Need-same-length calls (scan-port-at t) scan-port.Post
-  same-length c = search needs
+  abbrev told : lts.After-wide calls (Pre t) Post → lts.After-enum-told calls (Pre t) Post
+  told c = c .before .before .before .before
 
-  pub same-length-2 : scan-port-lts.Need-same-length-2 calls (scan-port-at t) scan-port.Post
-  same-length-2 c = search needs
+  -- ---- the bus there
 
-  pub returns : scan-port-lts.Need-returns calls (scan-port-at t) scan-port.Post
-  returns c n m h l = rw (c .ignore .ensures) (passes-failed _ _ _ _ _ (c .before .before .before .before .before .before .hub-check-connection .ensures n h) (not-ok _ (c .before .match .keys2)))
+  abbrev at-entry : lts.After-hub-check-connection calls (Pre t) Post → World
+  at-entry c = here (now (entry c .args .store)) (now (entry c .args .log)) (now (entry c .args .outcomes)) (entry c .args .at)
 
-  pub load-hub-requires : scan-port-lts.Need-load-hub-requires calls (scan-port-at t) scan-port.Post
-  load-hub-requires c κs = search needs
+  abbrev at-checked : lts.After-hub-check-connection calls (Pre t) Post → World
+  at-checked c =
+      let call = c .hub-check-connection in
+      here (call .last .0) (call .last .1 .0) (now (entry c .args .outcomes)) (call .result .at)
 
-  pub child-of-requires : scan-port-lts.Need-child-of-requires calls (scan-port-at t) scan-port.Post
-  child-of-requires c κs = search needs
+  after : (c : lts.After-hub-check-connection calls (Pre t) Post) → After (entry c .args .hub) (at-entry c) (at-checked c)
+  after c = checked-after _ (entry c .pre .1 .0) (entry c .pre .1 .1) (c .hub-check-connection .ensures _ (le-refl _))
 
-  pub wide-requires : scan-port-lts.Need-wide-requires calls (scan-port-at t) scan-port.Post
-  wide-requires c κs = search needs
+  -- the check, which answered Ok
+  check : (c : lts.After-wide calls (Pre t) Post) (n : ℕ) → freePlaces (at-entry (checked c) .store) ≤ n
+      → Ends (hubCheckConnection (attachBelow n) (entry (checked c) .args .hub) (entry (checked c) .args .port))
+      (at-entry (checked c)) Ok tt (at-checked (checked c))
+  check c n h = as-ok (told c .enum-told .given .1) (checked c .hub-check-connection .ensures n h)
 
-  pub ignore-requires-2 : scan-port-lts.Need-ignore-requires-2 calls (scan-port-at t) scan-port.Post
-  ignore-requires-2 c κs = search needs
+  child : (c : lts.After-wide calls (Pre t) Post)
+      → c .wide .result ≡ byteAt (at-checked (checked c) .store) (entry (checked c) .args .hub) (Child (entry (checked c) .args .port))
+  child c =
+      let low = entry (checked c) .pre .1 .1 in
+      child-read _ _ _ low (c .before .before .load-hub .ensures) (c .wide .ensures .0 ∙ c .before .child-of .ensures)
 
-  pub same-length-3 : scan-port-lts.Need-same-length-3 calls (scan-port-at t) scan-port.Post
-  same-length-3 c = search needs
+  -- the child stands above its hub
+  above : (c : lts.Else1 calls (Pre t) Post)
+      → (entry (checked (c .before)) .args .hub < c .before .wide .result - 1)
+      × Bus (c .before .wide .result - 1) (at-checked (checked (c .before)))
+  above c =
+      let call = checked (c .before) in
+      child-bus _ _ _ (after call .bus) (entry call .pre .1 .1) (child (c .before)) (c .if1 .left)
 
-  pub same-length-4 : scan-port-lts.Need-same-length-4 calls (scan-port-at t) scan-port.Post
-  same-length-4 c = search needs
+  -- ---- the needs
 
-  pub returns-2 : scan-port-lts.Need-returns-2 calls (scan-port-at t) scan-port.Post
+  returns : lts.Need-returns calls (Pre t) Post
+  returns c n m h l =
+      let call = c .before .before .before .before .before .before in
+      rw (c .ignore .ensures) (passes-failed _ _ _ _ _ (call .hub-check-connection .ensures n h) (not-ok _ (c .before .match .keys2)))
+
+  returns-2 : lts.Need-returns-2 calls (Pre t) Post
   returns-2 c n m h l =
-      let ok = c .before .before .before .before .before .before .enum-told .given .1 in
-      let stands = rw (c .before .before .before .before .load-hub .ensures, child-at _ _ _ (c .before .before .before .before .before .before .before .before .before .before .before .before .before .before .before .before .before .before .pre .1 .1)) at (c .before .before .wide .ensures .0 ∙ c .before .before .before .child-of .ensures) in
-      rw (c .ignore2 .ensures, ok) (passes-none _ _ _ _ (rw ok at (c .before .before .before .before .before .before .before .before .before .before .before .before .hub-check-connection .ensures n h)) stands (c .before .if1 .taken))
+      let read = c .before .before in
+      rw (c .ignore2 .ensures, told read .enum-told .given .1) (passes-none _ _ _ _ (check read n h) (child read) (c .before .if1 .taken))
 
-  pub sub-place : scan-port-lts.Need-sub-place calls (scan-port-at t) scan-port.Post
-  sub-place c = search needs
-
-  pub byte-at-requires : scan-port-lts.Need-byte-at-requires calls (scan-port-at t) scan-port.Post
+  byte-at-requires : lts.Need-byte-at-requires calls (Pre t) Post
   byte-at-requires c κs =
-      let stands = rw (c .before .before .before .before .load-hub .ensures, child-at _ _ _ (c .before .before .before .before .before .before .before .before .before .before .before .before .before .before .before .before .before .before .pre .1 .1)) at (c .before .before .wide .ensures .0 ∙ c .before .before .before .child-of .ensures) in
-      let k = checked-after _ (c .before .before .before .before .before .before .before .before .before .before .before .before .before .before .before .before .before .before .pre .1 .0) (c .before .before .before .before .before .before .before .before .before .before .before .before .before .before .before .before .before .before .pre .1 .1) (c .before .before .before .before .before .before .before .before .before .before .before .before .hub-check-connection .ensures _ (le-refl _)) in
-      let b = child-bus _ _ _ (k .bus) (c .before .before .before .before .before .before .before .before .before .before .before .before .before .before .before .before .before .before .pre .1 .1) stands (c .before .if1 .left) .1 in
-      record { whole = b .fit .whole; inside = b .inside; room = omega arith }
+      let bus = above (c .before) .1 in
+      record { whole = bus .fit .whole; inside = bus .inside; room = omega arith }
 
-  pub ignore-requires-3 : scan-port-lts.Need-ignore-requires-3 calls (scan-port-at t) scan-port.Post
-  ignore-requires-3 c κs = search needs
-
-  pub same-length-5 : scan-port-lts.Need-same-length-5 calls (scan-port-at t) scan-port.Post
-  same-length-5 c = search needs
-
-  pub same-length-6 : scan-port-lts.Need-same-length-6 calls (scan-port-at t) scan-port.Post
-  same-length-6 c = search needs
-
-  pub returns-3 : scan-port-lts.Need-returns-3 calls (scan-port-at t) scan-port.Post
+  returns-3 : lts.Need-returns-3 calls (Pre t) Post
   returns-3 c n m h l =
-      let ok = c .before .before .before .before .before .before .before .before .before .enum-told .given .1 in
-      let stands = rw (c .before .before .before .before .before .before .before .load-hub .ensures, child-at _ _ _ (c .before .before .before .before .before .before .before .before .before .before .before .before .before .before .before .before .before .before .before .before .before .pre .1 .1)) at (c .before .before .before .before .before .wide .ensures .0 ∙ c .before .before .before .before .before .before .child-of .ensures) in
-      rw (c .ignore3 .ensures, ok) (passes-no-hub _ _ _ _ (rw ok at (c .before .before .before .before .before .before .before .before .before .before .before .before .before .before .before .hub-check-connection .ensures n h)) stands (c .before .before .before .before .if1 .left) (sym (c .before .before .byte-at .ensures) ∙ c .before .if2 .taken))
+      let some = c .before .before .before .before in
+      let read = some .before in
+      let no-hub = sym (c .before .before .byte-at .ensures) ∙ c .before .if2 .taken in
+      rw (c .ignore3 .ensures, told read .enum-told .given .1) (passes-no-hub _ _ _ _ (check read n h) (child read) (some .if1 .left) no-hub)
 
-  pub hub-check-for-change-requires : scan-port-lts.Need-hub-check-for-change-requires calls (scan-port-at t) scan-port.Post
+  hub-check-for-change-requires : lts.Need-hub-check-for-change-requires calls (Pre t) Post
   hub-check-for-change-requires c κs =
-      let stands = rw (c .before .before .before .before .before .before .before .before .before .load-hub .ensures, child-at _ _ _ (c .before .before .before .before .before .before .before .before .before .before .before .before .before .before .before .before .before .before .before .before .before .before .before .pre .1 .1)) at (c .before .before .before .before .before .before .before .wide .ensures .0 ∙ c .before .before .before .before .before .before .before .before .child-of .ensures) in
-      let k = checked-after _ (c .before .before .before .before .before .before .before .before .before .before .before .before .before .before .before .before .before .before .before .before .before .before .before .pre .1 .0) (c .before .before .before .before .before .before .before .before .before .before .before .before .before .before .before .before .before .before .before .before .before .before .before .pre .1 .1) (c .before .before .before .before .before .before .before .before .before .before .before .before .before .before .before .before .before .hub-check-connection .ensures _ (le-refl _)) in
-      let b = child-bus _ _ _ (k .bus) (c .before .before .before .before .before .before .before .before .before .before .before .before .before .before .before .before .before .before .before .before .before .before .before .pre .1 .1) stands (c .before .before .before .before .before .before .if1 .left) in
-      (omega (arith, c .before .before .before .before .before .before .before .before .before .before .before .before .before .before .before .before .before .before .before .before .before .before .before .pre .0, b .0, b .1 .inside), b .1)
+      let some = c .before .before .before .before .before .before in
+      (omega (arith, entry (checked (some .before)) .pre .0, above some .0, above some .1 .inside), above some .1)
 
-  pub same-length-7 : scan-port-lts.Need-same-length-7 calls (scan-port-at t) scan-port.Post
-  same-length-7 c = search needs
-
-  pub same-length-8 : scan-port-lts.Need-same-length-8 calls (scan-port-at t) scan-port.Post
-  same-length-8 c = search needs
-
-  pub returns-4 : scan-port-lts.Need-returns-4 calls (scan-port-at t) scan-port.Post
+  returns-4 : lts.Need-returns-4 calls (Pre t) Post
   returns-4 c n m h l =
-      let stands = rw (c .before .before .before .before .before .before .before .before .before .before .before .before .before .before .load-hub .ensures, child-at _ _ _ (c .before .before .before .before .before .before .before .before .before .before .before .before .before .before .before .before .before .before .before .before .before .before .before .before .before .before .before .before .pre .1 .1)) at (c .before .before .before .before .before .before .before .before .before .before .before .before .wide .ensures .0 ∙ c .before .before .before .before .before .before .before .before .before .before .before .before .before .child-of .ensures) in
-      let k = checked-after _ (c .before .before .before .before .before .before .before .before .before .before .before .before .before .before .before .before .before .before .before .before .before .before .before .before .before .before .before .before .pre .1 .0) (c .before .before .before .before .before .before .before .before .before .before .before .before .before .before .before .before .before .before .before .before .before .before .before .before .before .before .before .before .pre .1 .1) (c .before .before .before .before .before .before .before .before .before .before .before .before .before .before .before .before .before .before .before .before .before .before .hub-check-connection .ensures _ (le-refl _)) in
-      let b = child-bus _ _ _ (k .bus) (c .before .before .before .before .before .before .before .before .before .before .before .before .before .before .before .before .before .before .before .before .before .before .before .before .before .before .before .before .pre .1 .1) stands (c .before .before .before .before .before .before .before .before .before .before .before .if1 .left) in
-      goes-below _ _ _ _ (rw (c .before .before .before .before .before .before .before .before .before .before .before .before .before .before .before .before .enum-told .given .1) at (c .before .before .before .before .before .before .before .before .before .before .before .before .before .before .before .before .before .before .before .before .before .before .hub-check-connection .ensures n h)) stands (c .before .before .before .before .before .before .before .before .before .before .before .if1 .left) (λ z. c .before .before .before .before .before .before .before .before .if2 .left (c .before .before .before .before .before .before .before .before .before .byte-at .ensures ∙ z)) (c .before .before .before .before .hub-check-for-change .ensures n m (omega (arith, k .free)) (omega (arith, b .0)))
+      let test = c .before .before .before .before .before .before .before .before in
+      let some = test .before .before .before in
+      let read = some .before in
+      let free = after (checked read) .free in
+      let scan = c .before .before .before .before .hub-check-for-change .ensures n m (omega (arith, free)) (omega (arith, above some .0)) in
+      goes-below _ _ _ _ (check read n h) (child read) (some .if1 .left) (λ z. test .if2 .left (test .before .byte-at .ensures ∙ z)) scan
+
+  pub met : {M : Type 1} → lts.Closed calls (Pre t) Post M
+  met =
+      lts.spec calls (Pre t) Post
+      (λ c κs. c .before .before .before .before .before .pre .1)
+      (λ c. search needs) (λ c κs. search needs) (λ c. search needs) (λ c. search needs) returns
+      (λ c κs. search needs) (λ c κs. search needs) (λ c κs. search needs)
+      (λ c κs. search needs) (λ c. search needs) (λ c. search needs) returns-2
+      (λ c. search needs) byte-at-requires
+      (λ c κs. search needs) (λ c. search needs) (λ c. search needs) returns-3
+      hub-check-for-change-requires (λ c. search needs) (λ c. search needs) returns-4

@@ -9,7 +9,9 @@ returns c = action-full _ _ _ (c .before .before .pre) (c .if1 .taken)
 
 returns-2 : tie.Need-returns-2
 returns-2 c =
-    action-logged _ _ _ (c .before .before .before .before .before .before .before .pre) (c .before .before .before .before .before .if1 .left) _ (c .before .before .memory-copy .ensures) (c .before .before .memory-copy .kept .0)
+    let copied = c .before .before in
+    let room = copied .before .before .before in
+    action-logged _ _ _ (room .before .before .pre) (room .if1 .left) _ (copied .memory-copy .ensures) (copied .memory-copy .kept .0)
 
 pub log-action-spec : {M : Type 1} → statement M
 log-action-spec =

@@ -11,7 +11,8 @@ returns c =
 
 returns-2 : tie.Need-returns-2
 returns-2 c =
-    request-logged _ _ _ _ _ (rw (c .before .before .enum-told .given .1) at (c .before .before .before .before .before .before .log-action .ensures)) (c .before .before .before .before .before .before .before .before .before .pre)
+    let logged = c .before .before .before .before .before .before in
+    request-logged _ _ _ _ _ (rw (c .before .before .enum-told .given .1) at (logged .log-action .ensures)) (logged .before .before .before .pre)
 
 pub log-request-spec : {M : Type 1} → statement M
 log-request-spec =
