@@ -12,7 +12,7 @@ use Rattle.usb_store.specs.Values.{Attached}
 use Rattle.usb_model.specs.Programs.{when}
 use Rattle.usb_model.specs.World.{M}
 use Rattle.usb_model.specs.Features.{PORT-CONNECTION, PORT-ENABLE, PORT-SUSPEND, PORT-OVER-CURRENT, C-PORT-CONNECTION, C-PORT-ENABLE, C-PORT-RESET, bit}
-use Rattle.usb_model.specs.Hub.{hubPortReset2, hubPortConnectionChanged, hubCheckConnection}
+use Rattle.usb_model.specs.Hub.{speedOf, hubPortReset2, hubPortConnectionChanged, hubCheckConnection}
 use Rattle.usb_model.specs.History.{Event}
 use Rattle.usb_model.proofs.Functions.{small, speed-listed}
 use Rattle.usb_model.proofs.Accepted.{neither}
@@ -123,10 +123,11 @@ module _ {h₀ : List Event} (H : ℕ → Type 0) where
           does-next (put-child H k j known below low x) (
           does-next (keeps-born x (port-status-still k j low)) (
           does-bind (keeps-born x (status-still k j)) λ after.
-          does-next (keeps-born x (put-quiet Keys Still x Speed _ (keys-clear second) (small Speed (omega arith) (omega arith)) (omega (arith, speed-listed after)))) (
-          does-next (keeps-born x (put-quiet Keys Still x Parent _ (keys-clear (fourth (omega arith) (omega arith)))
+          does-next (keeps-born x (put-quiet Keys Still x Speed (speedOf after) (keys-clear second)
+          (small Speed (omega arith) (omega arith)) (omega (arith, speed-listed after)))) (
+          does-next (keeps-born x (put-quiet Keys Still x Parent (k + 1) (keys-clear (fourth (omega arith) (omega arith)))
           (small Parent (omega arith) (omega arith)) (omega arith))) (
-          does-next (keeps-born x (put-quiet Keys Still x PortNumber _ (keys-clear (fourth (omega arith) (omega arith)))
+          does-next (keeps-born x (put-quiet Keys Still x PortNumber j (keys-clear (fourth (omega arith) (omega arith)))
           (small PortNumber (omega arith) (omega arith)) (omega arith))) (
           does-pre (λ s b. born-mid H k j known below low b) (enters H x Attached inside (omega arith))))))))))))))))
 
