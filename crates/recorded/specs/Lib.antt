@@ -3,3 +3,4 @@ pub mod Numbers
 pub mod Heads
 pub mod Stores
 pub mod Counts
+pub mod Files

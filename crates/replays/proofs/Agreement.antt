@@ -22,35 +22,36 @@ use Rattle.recorded.specs.declared.head.RecordedWalk.{RecordedWalk}
 
 -- ---- entry points
 
-module _ (entry first second : ℕ) (lent : Lent) where
-  pub entry-0 : entry ≡ 0 → entryPoint entry first second lent ≡ rootAttach first lent
+module _ (entry first second : ℕ) (lent : Lent) {l : Left} where
+  pub entry-0 : entry ≡ 0 → l ≡ rootAttach first lent → l ≡ entryPoint entry first second lent
   unfolding entryPoint
-  entry-0 e = rw e
+  entry-0 e h = rw e h
 
-  pub entry-1 : entry ≡ 1 → entryPoint entry first second lent ≡ scan first lent
+  pub entry-1 : entry ≡ 1 → l ≡ scan first lent → l ≡ entryPoint entry first second lent
   unfolding entryPoint
-  entry-1 e = rw e
+  entry-1 e h = rw e h
 
-  pub entry-2 : entry ≡ 2 → entryPoint entry first second lent ≡ portCheck first second lent
+  pub entry-2 : entry ≡ 2 → l ≡ portCheck first second lent → l ≡ entryPoint entry first second lent
   unfolding entryPoint
-  entry-2 e = rw e
+  entry-2 e h = rw e h
 
-  pub entry-3 : entry ≡ 3 → entryPoint entry first second lent ≡ childReset first second lent
+  pub entry-3 : entry ≡ 3 → l ≡ childReset first second lent → l ≡ entryPoint entry first second lent
   unfolding entryPoint
-  entry-3 e = rw e
+  entry-3 e h = rw e h
 
-  pub entry-4 : entry ≡ 4 → entryPoint entry first second lent ≡ childCheck first second lent
+  pub entry-4 : entry ≡ 4 → l ≡ childCheck first second lent → l ≡ entryPoint entry first second lent
   unfolding entryPoint
-  entry-4 e = rw e
+  entry-4 e h = rw e h
 
-  pub entry-5 : entry ≡ 5 → entryPoint entry first second lent ≡ retriedReset first second lent
+  pub entry-5 : entry ≡ 5 → l ≡ retriedReset first second lent → l ≡ entryPoint entry first second lent
   unfolding entryPoint
-  entry-5 e = rw e
+  entry-5 e h = rw e h
 
-  pub entry-6 : (entry ≡ 0 → ⊥) → (entry ≡ 1 → ⊥) → (entry ≡ 2 → ⊥) → (entry ≡ 3 → ⊥)
-      → (entry ≡ 4 → ⊥) → (entry ≡ 5 → ⊥) → entryPoint entry first second lent ≡ connectionChange first second lent
+  pub entry-6 : (entry ≡ 0 → ⊥) → (entry ≡ 1 → ⊥) → (entry ≡ 2 → ⊥) → (entry ≡ 3 → ⊥) → (entry ≡ 4 → ⊥) → (entry ≡ 5 → ⊥)
+      → l ≡ connectionChange first second lent → l ≡ entryPoint entry first second lent
   unfolding entryPoint
-  entry-6 a b c d e f = simp (ne-eqb entry 0 a, ne-eqb entry 1 b, ne-eqb entry 2 c, ne-eqb entry 3 d, ne-eqb entry 4 e, ne-eqb entry 5 f)
+  entry-6 a b c d e f h =
+      rw (ne-eqb entry 0 a, ne-eqb entry 1 b, ne-eqb entry 2 c, ne-eqb entry 3 d, ne-eqb entry 4 e, ne-eqb entry 5 f) h
 
 -- ---- agreement
 

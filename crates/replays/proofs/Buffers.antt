@@ -1,10 +1,9 @@
 -- Parts of buffers, over plain values. Assumes nothing.
-use mathlib.Core.Path.{_≡_, refl, sym, ap, _∙_}
-use mathlib.Core.List.{List, _∷_, _++_}
+use mathlib.Core.Path.{_≡_, refl, ap, _∙_}
+use mathlib.Core.List.{List, _∷_}
 use Prim.Native.Nat.{ℕ, zero, suc, _≤_}
 use native.Mathlib.Omega.{arith}
-use lib.ListN.{length, take, drop, replicate, length-append, length-take, length-replicate}
-use lib.Seq.{length-take-le}
+use lib.ListN.{length, take, replicate, length-replicate}
 use Rattle.replays.specs.Replays.{filled, storeBuffer, logBuffer, recordBuffer}
 
 take-replicate : (k n v : ℕ) → k ≤ n → take k (replicate n v) ≡ replicate k v
@@ -39,17 +38,3 @@ log-long l e = filled-long e
 pub record-long : (l : List ℕ) → l ≡ recordBuffer → length l ≡ 969
 unfolding recordBuffer
 record-long l e = filled-long e
-
-pub part-long : (n : ℕ) (l : List ℕ) → n ≤ length l → n ≡ length (take n l)
-part-long n l h = sym (length-take-le n l h)
-
--- a part that was lent, in the whole again
-module _ (n : ℕ) (part buffer : List ℕ) (kept : length part ≡ length (take n buffer)) (h : n ≤ length buffer) where
-  pub back-most : n ≤ length (part ++ drop n buffer)
-  back-most = omega (arith, length-append part (drop n buffer), length-take n buffer)
-
-  pub back-long : n ≡ length (take n (part ++ drop n buffer))
-  back-long = part-long n (part ++ drop n buffer) back-most
-
-  pub back-enough : n ≤ length (take n (part ++ drop n buffer))
-  back-enough = omega (arith, back-long)

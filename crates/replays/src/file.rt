@@ -1,14 +1,10 @@
 // The files of recorded calls and walks: what is read next, replayed.
 use crate::replay;
 use crate::replay_walk;
-use libc::STDOUT_FILENO;
-use recorded::head::HEAD_LEN;
-use recorded::head::WALK_HEAD_LEN;
-use recorded::head::asked_in;
-use recorded::head::fits;
-use recorded::head::recorded_in;
-use recorded::head::walk_fits;
-use recorded::head::walk_in;
+use recorded::file::NextCall;
+use recorded::file::NextWalk;
+use recorded::file::read_call;
+use recorded::file::read_walk;
 ghost use mathlib.Core.Path.{_≡_};
 ghost use lib.ListN.{length};
 ghost use Rattle.usb_store.specs.Layout.{StoreLength};
@@ -22,55 +18,19 @@ pub enum Next {
     End,
 }
 
-// A record that is cut short, or longer than the buffers.
-fn garbled() -> Next
-    ensures { λ r. ⌜ r ≡ Next.End ⌝ }
-{
-    io::write_all(STDOUT_FILENO, b"a record is garbled\n");
-    Next::End
-}
-
-// Reads until the buffer is full.
-fn is_read(fd: i32, buffer: &mut [u8]) -> bool
-    ensures { λ _. ⌜ length (now (buffer .exit)) ≡ length (now (buffer .entry)) ⌝ }
-{
-    io::read_full(fd, buffer) == buffer.len()
-}
-
 // Reads a call of calls.bin and replays it.
 fn next_call(fd: i32, store: &mut [u8]) -> Next
     requires { ⌜ length (now store) ≡ StoreLength ⌝ }
-    ensures { λ r. ⌜ (length (now (store .exit)) ≡ StoreLength) × OfCall r ⌝ }
+    ensures { λ r. ⌜ OfCall r ⌝ }
 {
-    let mut head = [0; HEAD_LEN];
-    let got = io::read_full(fd, &mut head);
-    if got == 0 {
-        return Next::End;
-    }
-    if got != HEAD_LEN {
-        return garbled();
-    }
-    let asked = asked_in(&head);
-    if !fits(asked) {
-        return garbled();
-    }
     let mut edits = io::buffer();
-    let edits_len = asked.edits as usize * 5;
-    if !is_read(fd, &mut edits[..edits_len]) {
-        return garbled();
-    }
     let mut outcomes = io::large_buffer();
+    let next = read_call(fd, &mut edits, &mut outcomes);
+    let NextCall::Call { asked, recorded } = next else {
+        return Next::End;
+    };
     let outcomes_len = asked.outcomes_len;
-    if !is_read(fd, &mut outcomes[..outcomes_len]) {
-        return garbled();
-    }
-    let agrees = replay(
-        asked,
-        recorded_in(&head),
-        store,
-        &edits[..edits_len],
-        &outcomes[..outcomes_len],
-    );
+    let agrees = replay(asked, recorded, store, &edits, &outcomes[..outcomes_len]);
     Next::Replayed {
         entry: asked.entry as usize,
         agrees,
@@ -81,33 +41,22 @@ fn next_call(fd: i32, store: &mut [u8]) -> Next
 fn next_walk(fd: i32) -> Next
     ensures { λ r. ⌜ OfWalk r ⌝ }
 {
-    let mut head = [0; WALK_HEAD_LEN];
-    let got = io::read_full(fd, &mut head);
-    if got == 0 {
-        return Next::End;
-    }
-    if got != WALK_HEAD_LEN {
-        return garbled();
-    }
-    let walk = walk_in(&head);
-    if !walk_fits(walk) {
-        return garbled();
-    }
     let mut descriptors = io::large_buffer();
-    let descriptors_len = walk.descriptors_len;
-    if !is_read(fd, &mut descriptors[..descriptors_len]) {
-        return garbled();
-    }
+    let next = read_walk(fd, &mut descriptors);
+    let NextWalk::Walk { recorded } = next else {
+        return Next::End;
+    };
+    let descriptors_len = recorded.descriptors_len;
     Next::Replayed {
         entry: WALK,
-        agrees: replay_walk(walk, &descriptors[..descriptors_len]),
+        agrees: replay_walk(recorded, &descriptors[..descriptors_len]),
     }
 }
 
 // Reads a call or a walk and replays it.
 pub fn next_record(walks: bool, fd: i32, store: &mut [u8]) -> Next
     requires { ⌜ length (now store) ≡ StoreLength ⌝ }
-    ensures { λ r. ⌜ (length (now (store .exit)) ≡ StoreLength) × OfFile walks r ⌝ }
+    ensures { λ r. ⌜ OfFile walks r ⌝ }
 {
     if walks {
         return next_walk(fd);

@@ -14,12 +14,12 @@ of-calls : {walks : Bool} (next : Next) → walks ≡ false → OfCall next → 
 of-calls next e h = rw e h
 
 returns : tie.Need-returns
-returns c = (search needs, of-walks (c .next-walk .result) (c .before .if1 .taken) (c .next-walk .ensures))
+returns c = of-walks (c .next-walk .result) (c .before .if1 .taken) (c .next-walk .ensures)
 
 returns-2 : tie.Need-returns-2
 returns-2 c =
     let call = c .before .before in
-    (search needs, of-calls (call .next-call .result) (call .before .before .if1 .left) (call .next-call .ensures .1))
+    of-calls (call .next-call .result) (call .before .before .if1 .left) (call .next-call .ensures)
 
 pub next-record-spec : {M : Type 1} → statement M
 next-record-spec = tie.close (tie.spec (λ c κs. search needs) returns (λ c κs. search needs) (λ c. search needs) returns-2)
