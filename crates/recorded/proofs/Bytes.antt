@@ -1,37 +1,18 @@
--- Check sums and numbers of bytes, over plain values. Assumes nothing.
+-- Numbers of bytes, over plain values. Assumes nothing.
 use mathlib.Core.Path.{_≡_, refl, ap, _∙_}
 use mathlib.Core.List.{List, [], _∷_, _++_}
-use Prim.Native.Nat.{ℕ, zero, suc, _+_, _-_, _*_, _%_, _^_, _≤_, _<_}
+use Prim.Native.Nat.{ℕ, zero, suc, _+_, _-_, _*_, _^_, _≤_, _<_}
 use native.Mathlib.Nat.{pow-suc, mul-assoc}
-use native.Mathlib.Numerals.{add-one}
 use native.Mathlib.Omega.{arith}
 use borrow.Author.Tests.{lt-ltb, le-ltb}
 use mir.Syntax.{w32}
 use mir.Val.{SFits, toZ, ofZ}
 use mir.Facts.{toZ-pos, toZ-ofZ}
 use lib.IntN.{pos, negsuc, _-ℤ_}
-use lib.ListN.{length, getD, take, drop, drop-of-length-le, length-drop}
-use lib.Seq.{drop-cons, drop-drop, take-add, length-take-le}
+use lib.ListN.{length, take, drop, length-drop}
+use lib.Seq.{drop-drop, take-add, length-take-le}
 use Rattle.usb_types.specs.Numbers.{fromLittleEndian, numberIn}
-use Rattle.recorded.specs.Sums.{adlerFrom, adler}
 use Rattle.recorded.specs.Numbers.{signed}
-
--- ---- the check sum
-
-pub adler-more : (a b : ℕ) (bytes : List ℕ) (i : ℕ) → i < length bytes
-    → adlerFrom a b (drop i bytes) ≡ adlerFrom ((a + getD bytes i 0) % 65521) ((b + (a + getD bytes i 0) % 65521) % 65521) (drop (i + 1) bytes)
-unfolding adlerFrom
-adler-more a b bytes i h = rw (add-one, drop-cons bytes i 0)
-
-pub adler-end : (a b : ℕ) (bytes : List ℕ) (i : ℕ) → length bytes ≤ i → adlerFrom a b (drop i bytes) ≡ b * 65536 + a
-unfolding adlerFrom
-adler-end a b bytes i h = rw (drop-of-length-le bytes h)
-
-pub adler-start : (bytes : List ℕ) → adlerFrom 1 0 bytes ≡ adler bytes
-unfolding adler
-adler-start bytes = refl
-
--- ---- numbers
 
 -- the bytes of a number in two parts
 from-append : (a b : List ℕ) → fromLittleEndian (a ++ b) ≡ fromLittleEndian a + 256 ^ length a * fromLittleEndian b

@@ -1,4 +1,2 @@
 pub mod Bytes
 pub mod Heads
-pub mod Sequences
-pub mod Counting

@@ -1,6 +1,3 @@
-// Recorded answers: their files, the heads of calls and walks, their check sum, the stores of a sequence, and counts of what agreed.
+// Recorded calls and walks: their files and their heads.
 pub mod file;
 pub mod head;
-pub mod store;
-pub mod sum;
-pub mod tally;

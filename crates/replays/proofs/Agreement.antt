@@ -13,9 +13,9 @@ use Rattle.usb_model.specs.Entry.{Lent, Left, WalkLeft, rootAttach, scan, portC
 use Rattle.usb_model.specs.Entry.{retriedReset, connectionChange, configurationWalk}
 use Rattle.usb_entry.specs.declared.reply.Reply.{Reply}
 use Rattle.usb_entry.specs.Replies.{lent, left, walkLeft}
-use Rattle.recorded.specs.Sums.{adler}
+use Rattle.sequences.specs.Sums.{adler}
 use Rattle.replays.specs.Replays.{Replays, entryPoint, filled, replayed, agrees, walkAgrees, walked}
-use Rattle.recorded.specs.Stores.{storeBefore, oldStore, storeAfter}
+use Rattle.sequences.specs.Stores.{storeBefore, oldStore, storeAfter}
 use Rattle.recorded.specs.declared.head.Asked.{Asked}
 use Rattle.recorded.specs.declared.head.Recorded.{Recorded}
 use Rattle.recorded.specs.declared.head.RecordedWalk.{RecordedWalk}

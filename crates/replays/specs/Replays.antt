@@ -9,9 +9,9 @@ use Rattle.usb_types.specs.Numbers.{sameInt}
 use Rattle.usb_store.specs.Layout.{StoreLength}
 use Rattle.usb_model.specs.Entry.{Lent, Left, WalkLeft, rootAttach, scan, portCheck, childReset, childCheck, retriedReset, connectionChange, configurationWalk}
 use Rattle.usb_entry.specs.Replies.{lent}
-use Rattle.recorded.specs.Sums.{adler}
+use Rattle.sequences.specs.Sums.{adler}
 use Rattle.recorded.specs.Heads.{fits}
-use Rattle.recorded.specs.Stores.{storeBefore, oldStore, storeAfter}
+use Rattle.sequences.specs.Stores.{storeBefore, oldStore, storeAfter}
 use Rattle.recorded.specs.declared.head.Asked.{Asked}
 use Rattle.recorded.specs.declared.head.Recorded.{Recorded}
 use Rattle.recorded.specs.declared.head.RecordedWalk.{RecordedWalk}

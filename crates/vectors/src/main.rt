@@ -1,8 +1,8 @@
 // Replays the recorded answers of the original through the calls, and writes how many agreed, by entry point.
 use libc::STDOUT_FILENO;
-use recorded::tally::tally;
 use replays::file::Next;
 use replays::file::next_record;
+use sequences::tally::tally;
 use usb_store::STORE_LEN;
 ghost use mathlib.Core.Path.{_≡_};
 ghost use Rattle.usb_store.specs.Layout.{emptyStore};
