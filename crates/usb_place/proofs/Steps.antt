@@ -3,19 +3,20 @@ use mathlib.Core.Path.{_≡_, refl, sym, ap, _∙_}
 use mathlib.Core.Bool.{Bool, true, false, _&&_, and-assoc, and-true, and-false}
 use mathlib.Core.Logic.{_⊎_, inl, inr, ⊎-elim, _≢_}
 use mathlib.Core.List.{List, [], _∷_}
-use Prim.Native.Nat.{ℕ, zero, suc, _+_, _-_, _≤_, _<_}
+use Prim.Native.Nat.{ℕ, zero, suc, _+_, _-_, _*_, _≤_, _<_}
+use native.Mathlib.Nat.{le-of-eq}
 use native.Mathlib.Numerals.{add-one}
 use native.Mathlib.Omega.{arith}
 use lib.Bits.{bitOr, or-add-and, and-le-r, or-comm}
 use lib.Dec.{eqb}
-use lib.ListN.{length, getD, drop, drop-of-length-le}
-use lib.Seq.{drop-cons}
+use lib.ListN.{length, getD, take, drop, length-drop, drop-of-length-le}
+use lib.Seq.{take-all, drop-cons, getD-drop}
 use borrow.Author.Tests.{eqb-true, eqb-false, le-leb, lt-leb, eq-eqb, ne-eqb}
 use Rattle.usb_store.specs.Layout.{Used, Number, Speed, Status, Hub, Error, MaxChildren}
 use Rattle.usb_store.specs.Access.{byteAt, bytesAt, numberAt}
-use Rattle.usb_place.specs.Rules.{OneOf, errors}
+use Rattle.usb_place.specs.Rules.{OneOf, errors, Decides}
 use Rattle.usb_place.specs.Test.{zeros, oneOf, every, fieldsSound, hubSound, placeSound, usedSound}
-use Rattle.usb_place.proofs.Tests.{split, one-decides}
+use Rattle.usb_place.proofs.Tests.{below, split, eq-decides, as-decides, decides-same, and-decides, one-decides, zeros-decides, every-decides}
 
 -- bytes or-ed together are zero exactly where each is
 or-zero : (a b : ℕ) → eqb (bitOr a b) 0 ≡ (eqb a 0 && eqb b 0)
@@ -32,10 +33,16 @@ or-zero a b = go (eqb a 0) (eqb b 0) refl refl
     go true false ea eb = ne-eqb (bitOr a b) 0 (λ z. eqb-false b 0 eb (omega (arith, right, z)))
     go false u ea eb = ne-eqb (bitOr a b) 0 (λ z. eqb-false a 0 ea (omega (arith, left, z)))
 
+or-more : (z t : Bool) (all x : ℕ) → z ≡ (eqb all 0 && (eqb x 0 && t)) → z ≡ (eqb (bitOr all x) 0 && t)
+or-more z t all x e = e ∙ rw (or-zero, and-assoc)
+
+or-zero-decides : (a b : ℕ) {P Q : Type 0} → Decides (eqb a 0) P → Decides (eqb b 0) Q → Decides (eqb (bitOr a b) 0) (P × Q)
+or-zero-decides a b d f = rw or-zero (and-decides _ _ d (λ _. f))
+
 module _ (s : List ℕ) (all i : ℕ) (e : zeros s ≡ (eqb all 0 && zeros (drop i s))) where
   pub zero-more : i < length s → zeros s ≡ (eqb (bitOr all (getD s i 0)) 0 && zeros (drop (i + 1) s))
   unfolding zeros
-  zero-more h = e ∙ rw (drop-cons s i 0, add-one, or-zero, and-assoc)
+  zero-more h = or-more _ _ all (getD s i 0) (e ∙ rw (drop-cons s i 0, add-one))
 
   pub zero-all : length s ≤ i → eqb all 0 ≡ zeros s
   unfolding zeros
@@ -56,6 +63,68 @@ module _ (f : ℕ → Bool) (n p : ℕ) where
   pub every-end : n ≤ p → every f p (n - p) ≡ true
   unfolding every
   every-end h = ap (λ (k : ℕ). every f p k) (none n p h)
+
+-- the rest of a slice
+pub tail-zeros : (s : List ℕ) (a : ℕ) → zeros (take (length s - a) (drop a s)) ≡ zeros (drop a s)
+tail-zeros s a = ap zeros (take-all (length s - a) (drop a s) (le-of-eq (length-drop a s)))
+
+-- the bytes at i and j, or-ed; the bytes at k of four parts of length q, or-ed; these are zero
+abbrev orTwo : List ℕ → ℕ → ℕ → ℕ
+orTwo s i j = bitOr (getD s i 0) (getD s j 0)
+
+abbrev orParts : List ℕ → ℕ → ℕ → ℕ
+orParts s q k = bitOr (orTwo s k (q + k)) (orTwo s (2 * q + k) (3 * q + k))
+
+unfoldable pub zeroParts : List ℕ → ℕ → ℕ → Bool
+zeroParts s q k = eqb (orParts s q k) 0
+
+module _ (s : List ℕ) (q : ℕ) where
+  abbrev At : ℕ → Type 0
+  At i = getD s i 0 ≡ 0
+
+  abbrev Parts : ℕ → Type 0
+  Parts k = (At k × At (q + k)) × (At (2 * q + k) × At (3 * q + k))
+
+  parts-decides : (k : ℕ) → Decides (zeroParts s q k) (Parts k)
+  unfolding zeroParts
+  parts-decides k = or-zero-decides (orTwo s k (q + k)) (orTwo s (2 * q + k) (3 * q + k)) (two k (q + k)) (two (2 * q + k) (3 * q + k))
+    where
+      two : (i j : ℕ) → Decides (eqb (orTwo s i j) 0) (At i × At j)
+      two i j = or-zero-decides (getD s i 0) (getD s j 0) (eq-decides (getD s i 0) 0) (eq-decides (getD s j 0) 0)
+
+  -- all bytes: those of the four parts, and those behind them
+  by-parts : zeros s ≡ (every (zeroParts s q) 0 q && zeros (drop (4 * q) s))
+  by-parts =
+      decides-same _ _ (zeros-decides s)
+      (as-decides (λ x. to (x .0) (x .1))
+      (λ z. (λ k _ _. ((z k, z (q + k)), (z (2 * q + k), z (3 * q + k))), λ k. rw getD-drop (z (4 * q + k))))
+      (and-decides _ _ (every-decides (zeroParts s q) Parts parts-decides 0 q) (λ _. zeros-decides (drop (4 * q) s))))
+    where
+      to : ((k : ℕ) → 0 ≤ k → k < 0 + q → Parts k) → ((k : ℕ) → getD (drop (4 * q) s) k 0 ≡ 0) → (i : ℕ) → At i
+      to x y i =
+          ⊎-elim (λ l. x i (omega arith) (omega arith) .0 .0)
+          (λ a. ⊎-elim (λ l. past q a (x (i - q) (omega arith) (omega arith) .0 .1))
+          (λ b. ⊎-elim (λ l. past (2 * q) b (x (i - 2 * q) (omega arith) (omega arith) .1 .0))
+          (λ d. ⊎-elim (λ l. past (3 * q) d (x (i - 3 * q) (omega arith) (omega arith) .1 .1))
+          (λ g. past (4 * q) g (rw getD-drop at (y (i - 4 * q)))) (below i (4 * q))) (below i (3 * q))) (below i (2 * q))) (below i q)
+        where
+          past : (m : ℕ) → m ≤ i → At (m + (i - m)) → At i
+          past m l z = let e : m + (i - m) ≡ i = omega arith in rw e at z
+
+module _ (s : List ℕ) (q all i : ℕ) (e : every (zeroParts s q) 0 q ≡ (eqb all 0 && every (zeroParts s q) i (q - i))) where
+  pub parts-more : i < q
+      → every (zeroParts s q) 0 q ≡ (eqb (bitOr all (orParts s q i)) 0 && every (zeroParts s q) (i + 1) (q - (i + 1)))
+  unfolding zeroParts
+  parts-more h = or-more _ _ all (orParts s q i) (e ∙ rw (every-turn (zeroParts s q) q i h refl))
+
+  parts-all : q ≤ i → zeros s ≡ (eqb all 0 && zeros (drop (4 * q) s))
+  parts-all h = by-parts s q ∙ rw (e, every-end (zeroParts s q) q i h, and-true)
+
+  pub parts-some : q ≤ i → all ≢ 0 → false ≡ zeros s
+  parts-some h z = sym (parts-all h ∙ rw (ne-eqb all 0 z))
+
+  pub parts-none : q ≤ i → all ≡ 0 → (r : Bool) → r ≡ zeros (take (length s - 4 * q) (drop (4 * q) s)) → r ≡ zeros s
+  parts-none h z r t = t ∙ tail-zeros s (4 * q) ∙ sym (parts-all h ∙ rw (eq-eqb all 0 z))
 
 -- listed values
 one-yes : (x : ℕ) (ys : List ℕ) → OneOf x ys → oneOf x ys ≡ true

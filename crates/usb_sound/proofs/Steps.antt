@@ -4,21 +4,15 @@ use mathlib.Core.Bool.{Bool, true, false, cond, and-false}
 use mathlib.Core.Logic.{_≢_}
 use mathlib.Core.List.{List}
 use Prim.Native.Nat.{ℕ, _+_, _-_, _*_, _≤_, _<_}
-use native.Mathlib.Nat.{le-of-eq}
 use lib.Dec.{eqb}
-use lib.ListN.{length, getD, set, take, drop, replicate, length-drop}
-use lib.Seq.{take-all}
+use lib.ListN.{length, getD, set, take, drop, replicate}
 use borrow.Author.Tests.{lt-ltb, le-ltb, le-leb, lt-leb, eq-eqb, ne-eqb}
 use Rattle.usb_store.specs.Layout.{Places, PlaceLength, StoreLength, PortNumber, Parent, Hub, Child, Ports}
 use Rattle.usb_store.specs.Access.{byteAt}
 use Rattle.usb_device.specs.Device.{firstUnused}
 use Rattle.usb_place.specs.Test.{zeros, every, usedSound}
-use Rattle.usb_place.proofs.Steps.{left, none}
+use Rattle.usb_place.proofs.Steps.{tail-zeros, left, none}
 use Rattle.usb_sound.specs.Test.{Marked, marked, andThen, parentSound, markChild, markPorts, markHubs, allSeen, treeSound, storeSound, sound}
-
--- the rest of a slice
-tail-zeros : (s : List ℕ) (a : ℕ) → zeros (take (length s - a) (drop a s)) ≡ zeros (drop a s)
-tail-zeros s a = ap zeros (take-all (length s - a) (drop a s) (le-of-eq (length-drop a s)))
 
 -- a child byte by its cases
 module _ (s : List ℕ) (n h q c : ℕ) (seen : List ℕ) where

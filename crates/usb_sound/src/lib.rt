@@ -5,7 +5,7 @@ mod children;
 use children::tree_sound;
 use usb_device::device::first_unused;
 use usb_place::places_sound;
-use usb_place::zero;
+use usb_place::zero_quarters;
 use usb_store::PARENT;
 use usb_store::PLACE_LEN;
 use usb_store::STORE_LEN;
@@ -26,7 +26,7 @@ fn store_sound(store: &[u8], n: usize) -> bool
     ensures { λ r. ⌜ r ≡ storeSound (now (store .entry)) n ⌝ }
 {
     let start = n * PLACE_LEN;
-    if !zero(&store[start..]) {
+    if !zero_quarters(&store[start..]) {
         return false;
     }
     if byte_at(store, 0, PARENT) != 0 {
