@@ -1,5 +1,5 @@
 -- Demand 3 (usb_model, specs/Demand3.antt) in the terms of the exports' contracts: of the bytes that a caller lends, and of the replies
--- and the bytes that it gets back. proofs/Calls.antt proves `Histories`, `RootAttaches` and `Reports`.
+-- and the bytes that it gets back. proofs/Calls.antt proves `Histories` and `Reports`.
 use mathlib.Core.Path.{_≡_}
 use mathlib.Core.List.{List, []}
 use Prim.Native.Nat.{ℕ, _/_, _≤_}
@@ -9,10 +9,10 @@ use Rattle.usb_types.specs.declared.types.Halt.{Halt}
 use Rattle.usb_store.specs.Layout.{emptyStore}
 use Rattle.usb_model.specs.Programs.{endOf}
 use Rattle.usb_model.specs.Entry.{Lent, Left, accepted, start, rootAttach, scan, portCheck}
-use Rattle.usb_model.specs.Kept.{LentBytes, Accounts}
+use Rattle.usb_model.specs.Kept.{LentBytes, requestsIn, Accounts}
 use Rattle.usb_model.specs.Count.{mostRequests, storeLeft}
 use Rattle.usb_model.specs.History.{Event, joined}
-use Rattle.usb_model.specs.Demand3.{Call, attaches, scans, checks, verdict, program, Demand, Bounded}
+use Rattle.usb_model.specs.Demand3.{Call, attaches, scans, checks, verdict, program, Demand}
 use Rattle.usb_entry.specs.declared.reply.Reply.{Reply}
 use Rattle.usb_entry.specs.Replies.{left}
 
@@ -55,17 +55,21 @@ pub data Calls : List ℕ → List Event → Type 0 where
       → verdict c (made .lends) ≡ accepted → (Stopped (made .reply) → ⊥)
       → Calls (made .new) (joined (actionsOf c (made .lends)) (made .log) (made .lends .outcomes) h)
 
--- demand 3 holds of every such list
+-- "Each root attach, in the list or stopped, leaving d devices, h of them hubs, sent at most 8·d + 444·h requests": the count in its reply
+abbrev pub Bounded : List ℕ → Type 0
+Bounded s =
+    (speed : ℕ) (made : Made (attaches speed)) → made .lends .old ≡ s
+    → made .reply .requests ≤ mostRequests (storeLeft (verdict (attaches speed) (made .lends)) (made .lends) (leftBy made))
+
+-- demand 3, one claim on the whole list
 abbrev pub Histories : Type 0
 Histories = (s : List ℕ) (h : List Event) → Calls s h → Demand s h × Bounded s
 
--- "Each root attach, in the list or stopped, leaving d devices, h of them hubs, sent at most 8·d + 444·h requests": the count in its reply
-abbrev pub RootAttaches : Type 0
-RootAttaches =
-    (s : List ℕ) (h : List Event) → Calls s h → (speed : ℕ) (made : Made (attaches speed)) → made .lends .old ≡ s
-    → made .reply .requests ≤ mostRequests (storeLeft (verdict (attaches speed) (made .lends)) (made .lends) (leftBy made))
+-- "Requests sent are the actions of kind 1 that the call logged": of every root attach, scan and port check, refused or stopped ones too,
+-- `Accounts` says that the reply counts them; those of an accepted call are counted among the actions that join the history
+pub record Reported {c : Call} (made : Made c) : Type 0 where
+  pub accounts : Accounts (made .lends) (leftBy made)
+  pub sent : verdict c (made .lends) ≡ accepted → made .reply .requests ≡ requestsIn (actionsOf c (made .lends)) (made .log)
 
--- "Requests sent are the actions of kind 1 that the call logged": of every call, refused or stopped ones too, `Accounts` says that the
--- reply counts them
 abbrev pub Reports : Type 0
-Reports = (c : Call) (made : Made c) → Accounts (made .lends) (leftBy made)
+Reports = (c : Call) (made : Made c) → Reported made

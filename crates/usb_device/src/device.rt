@@ -1,5 +1,10 @@
 // device.rs: a new device, and the first place that is not used.
 use usb_store::CONFIGURATION_INDEX;
+use usb_store::CONFIGURATION_TYPE;
+use usb_store::DEVICE_CLASS;
+use usb_store::DEVICE_TYPE;
+use usb_store::ENDPOINT_TYPE;
+use usb_store::INTERFACE_TYPE;
 use usb_store::MAX_PACKET_SIZE0;
 use usb_store::NUMBER;
 use usb_store::PLACE_LEN;
@@ -68,13 +73,13 @@ fn new_device(bytes: &mut [u8], place: usize)
     bytes[NUMBER] = (place + 1) as u8;
     bytes[SPEED] = FULL;
     bytes[CONFIGURATION_INDEX] = 255;
-    // The device descriptor's type and class, and the configuration descriptor's type, by Default.
-    bytes[17] = 1;
-    bytes[20] = 9;
+    // The types and the class are those of Default: 1 (device) and 9 (hub).
+    bytes[DEVICE_TYPE] = 1;
+    bytes[DEVICE_CLASS] = 9;
     bytes[MAX_PACKET_SIZE0] = 8;
-    bytes[35] = 1;
-    mark(bytes, 129, 9, 8);
-    mark(bytes, 201, 7, 128);
+    bytes[CONFIGURATION_TYPE] = 1;
+    mark(bytes, INTERFACE_TYPE, 9, 8);
+    mark(bytes, ENDPOINT_TYPE, 7, 128);
 }
 
 pub fn put_new_device(store: &mut [u8], place: usize)

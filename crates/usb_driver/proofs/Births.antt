@@ -1,6 +1,6 @@
 -- A new child: a place is taken, and it stands above its hub. Assumes nothing.
 use mathlib.Core.Path.{_≡_, refl, ap, subst}
-use mathlib.Core.Bool.{Bool, true, false, false≢true}
+use mathlib.Core.Bool.{true, false, false≢true}
 use mathlib.Core.List.{List, [], _∷_}
 use Prim.Native.Nat.{ℕ, _+_, _≤_, _<_}
 use native.Mathlib.Omega.{arith}
@@ -15,7 +15,7 @@ use Rattle.usb_model.specs.Usbd.{usbAllocateDevice}
 use Rattle.usb_model.specs.Kept.{Good}
 use Rattle.usb_model.proofs.Keeps.{Any, Left, left-holds, next}
 use Rattle.usb_model.proofs.Stores.{new-follows, first-new, free-new, store-good}
-use Rattle.usb_model.proofs.Ways.{Allocates, bus-full, allocated, allocate-ends}
+use Rattle.usb_model.proofs.Ways.{isDone, Allocates, bus-full, allocated, allocate-ends}
 use Rattle.usb_model.proofs.Walks.{Reach, Walks, reach-here}
 use Rattle.usb_model.proofs.Primitives.{puts}
 use Rattle.usb_model.proofs.Functions.{small}
@@ -26,11 +26,6 @@ use Rattle.usb_child.specs.Parts.{newChild}
 use Rattle.usb_driver.specs.Bus.{Bus}
 use Rattle.usb_driver.proofs.Reaches.{reached, at-place}
 use Rattle.usb_driver.proofs.Goes.{resets, places}
-
-abbrev isDone : {A : Type 0} → Ran World A → Bool
-isDone (done a w) = true
-isDone (fail e w) = false
-isDone (halt h w) = false
 
 -- a run that is done was done in both of its parts
 record Parts {A B : Type 0} (m : M A) (k : A → M B) (w : World) (y : B) (v : World) : Type 0 where

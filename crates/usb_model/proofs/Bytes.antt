@@ -35,9 +35,12 @@ bytes-append {l} {m} b c = go l b
     go [] b = c
     go (x ∷ l) b = bytes-cons (bytes-head b) (go l (bytes-tail b))
 
+pub filled : (x : ℕ) → x < 256 → (n : ℕ) → Bytes (replicate n x)
+filled x h zero = bytes-nil
+filled x h (suc n) = bytes-cons h (filled x h n)
+
 pub zeros : (n : ℕ) → Bytes (replicate n 0)
-zeros zero = bytes-nil
-zeros (suc n) = bytes-cons (omega arith) (zeros n)
+zeros n = filled 0 (omega arith) n
 
 pub bytes-write : (s : List ℕ) (i : ℕ) (vs : List ℕ) → Bytes s → Bytes vs → Bytes (write s i vs)
 bytes-write [] i vs b c = b

@@ -194,7 +194,12 @@ pub demand3 : Demand3
 unfolding rootAttach
 demand3 s h r =
     let k = kept r in (
-      record { story = λ p c. k .place p (c .device .0) .story (c .status); single = single (k .sound); belongs = k .belongs },
+      record {
+        sound = k .sound;
+        story = λ p c. k .place p (c .device .0) .story (c .status);
+        single = single (k .sound);
+        belongs = k .belongs;
+      },
       λ speed lent e b. root-attach-requests lent b speed,
     )
 

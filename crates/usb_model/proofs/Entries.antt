@@ -2,7 +2,7 @@
 use mathlib.Core.Path.{_≡_, refl, sym, _∙_}
 use mathlib.Core.Bool.{Bool, true, false, cond, not, _||_}
 use mathlib.Core.Logic.{_≢_}
-use mathlib.Core.List.{List, []}
+use mathlib.Core.List.{List}
 use Prim.Native.Nat.{ℕ, _+_, _≤_, _<_}
 use native.Mathlib.Omega.{arith}
 use native.Mathlib.Decide.{decLt}
@@ -21,7 +21,6 @@ use Rattle.usb_types.specs.declared.types.Refusal.{Refusal}
 use Rattle.usb_types.specs.declared.types.Refusal.the-variants.{BadArgument, StoreDamaged, AlreadyAttached, RootSpeed}
 use Rattle.usb_store.specs.Layout.{StoreLength, Child, MaxChildren}
 use Rattle.usb_store.specs.Access.{byteAt}
-use Rattle.usb_store.proofs.Writes.{write-nil}
 use Rattle.usb_sound.specs.Sound.{Sound}
 use Rattle.usb_sound.proofs.Hubs.{child-below, used-leads}
 use Rattle.usb_model.specs.Programs.{Ran}
@@ -32,6 +31,7 @@ use Rattle.usb_model.specs.Entry.{Lent, Verdict, accepted, refused, isUn
 use Rattle.usb_model.specs.Kept.{Bytes, requestsIn, Above, Good, Onward, Listed, LentBytes, Accounts, WalkAccounts}
 use Rattle.usb_model.proofs.Accepted.{port-inside, root-accepted, hub-accepted}
 use Rattle.usb_model.proofs.Keeps.{Any, Left, is-done, is-failed, is-halted}
+use Rattle.usb_model.proofs.Onward.{long, log-length, requests-logged, later-kept}
 use Rattle.usb_model.proofs.Walks.{Reach, reach-here}
 use Rattle.usb_model.proofs.Record.{walk-long, walk-bytes}
 use Rattle.usb_model.proofs.Functions.{child-reset, reset}
@@ -111,12 +111,12 @@ module _ (lent : Lent) (bytes : LentBytes lent) where
     answer = a;
     new-length = o .store ∙ sym e;
     new-bytes = g .store;
+    log-length = log-length o refl (g .logged);
     log-bytes = g .log;
     actions = o .actions;
-    news = o .news;
-    news-length = o .news-length;
-    log = o .log;
-    requests = omega (arith, o .requests);
+    room = long o refl (g .logged);
+    later = later-kept o refl (g .logged);
+    requests = requests-logged o refl (g .logged) refl;
   }
 
   answered-of : {n : ℕ} {r : Ran World (Unit {0})} → length (lent .new) ≡ length (lent .old) → Left (Reach (start lent) n) Any r
@@ -135,11 +135,11 @@ module _ (lent : Lent) (bytes : LentBytes lent) where
     answer = refusal-listed r;
     new-length = refl;
     new-bytes = bytes .new;
+    log-length = refl;
     log-bytes = bytes .log;
     actions = 0;
-    news = [];
-    news-length = refl;
-    log = sym (write-nil (lent .log) 0);
+    room = omega arith;
+    later = refl;
     requests = refl;
   }
 

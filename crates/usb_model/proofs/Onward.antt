@@ -1,13 +1,13 @@
 -- `Onward` holds of no step and of two in a row. Assumes nothing.
 use mathlib.Core.Path.{_≡_, refl, sym, ap, _∙_}
 use mathlib.Core.List.{List, [], _∷_, _++_}
-use Prim.Native.Nat.{ℕ, zero, suc, _+_, _*_, _<_}
-use native.Mathlib.Nat.{zero-add, suc-add}
+use Prim.Native.Nat.{ℕ, zero, suc, _+_, _*_, _≤_, _<_}
+use native.Mathlib.Nat.{zero-add, add-zero, suc-add}
 use native.Mathlib.Omega.{arith}
 use lib.ListN.{length, getD, drop, length-append, length-drop}
-use lib.Seq.{drop-append-le}
+use lib.Seq.{drop-append-le, drop-at}
 use Rattle.usb_store.specs.Access.{write}
-use Rattle.usb_store.proofs.Writes.{write-nil, write-append}
+use Rattle.usb_store.proofs.Writes.{length-write, write-nil, write-append, part-back}
 use Rattle.usb_model.specs.World.{World}
 use Rattle.usb_model.specs.Kept.{requestsIn, Onward}
 
@@ -23,6 +23,34 @@ requests-append (suc m) n a b h =
     let rest : requestsIn (m + n) (drop 16 a ++ b) ≡ requestsIn m (drop 16 a) + requestsIn n b =
     requests-append m n (drop 16 a) b (omega (arith, length-drop 16 a)) in
     rw (suc-add, head-append a b (omega arith), drop-append-le 16 a b (omega arith)) (omega (arith, rest))
+
+-- a run that begins at the start of the log: its requests are counted in the log, and the bytes behind its actions are as they were
+module _ {u v : World} (o : Onward u v) (first : u .at .logged ≡ 0) (room : v .at .logged ≤ length (v .log)) where
+  pub long : 16 * o .actions ≤ length (v .log)
+  long = omega (arith, o .logged)
+
+  pub log-length : length (v .log) ≡ length (u .log)
+  log-length = ap length (o .log) ∙ length-write (u .log) (u .at .logged) (o .news)
+
+  split : o .news ++ drop (16 * o .actions) (u .log) ≡ v .log
+  split =
+      part-back (u .log) 0 (16 * o .actions) (o .news) (o .news-length) (omega (arith, long, log-length))
+      ∙ ap (λ (i : ℕ). write (u .log) i (o .news)) (sym first)
+      ∙ sym (o .log)
+
+  pub requests-logged : u .at .requests ≡ 0 → v .at .requests ≡ requestsIn (o .actions) (v .log)
+  unfolding requestsIn
+  requests-logged none =
+      let here : requestsIn (o .actions) (v .log) ≡ requestsIn (o .actions) (o .news) =
+      ap (requestsIn (o .actions)) (sym split)
+      ∙ ap (λ (n : ℕ). requestsIn n (o .news ++ drop (16 * o .actions) (u .log))) (sym (add-zero (o .actions)))
+      ∙ requests-append (o .actions) 0 (o .news) (drop (16 * o .actions) (u .log)) (o .news-length)
+      ∙ add-zero (requestsIn (o .actions) (o .news)) in
+      omega (arith, o .requests, here)
+
+  pub later-kept : drop (16 * o .actions) (v .log) ≡ drop (16 * o .actions) (u .log)
+  later-kept =
+      ap (drop (16 * o .actions)) (sym split) ∙ drop-at (o .news) (drop (16 * o .actions) (u .log)) (16 * o .actions) (o .news-length)
 
 pub onward-same : (w : World) → Onward w w
 unfolding requestsIn

@@ -20,6 +20,11 @@ use Rattle.usb_model.specs.World.{World, withStore, putBytes, appended, 
 use Rattle.usb_model.specs.Transfer.{Outcome, taken, outcomesLeft, sizeOf, outcomeOf, takeOutcome}
 use Rattle.usb_model.specs.Usbd.{usbAllocateDevice}
 
+abbrev pub isDone : {A : Type 0} → Ran World A → Bool
+isDone (done a w) = true
+isDone (fail e w) = false
+isDone (halt h w) = false
+
 -- the world with one action more, and the requests counted
 abbrev pub Logged : World → List ℕ → ℕ → World
 Logged w action requests = record {

@@ -165,9 +165,11 @@ walkLines =
     walks bare lentRecord ⇒ row (minus 0) 0 lentRecord
     -- "M the same followed by an endpoint, T 16: −4"
     ∷ walks (bare ++ endpoint) lentRecord ⇒ row (minus 4) 0 lentRecord
-    -- "M first interface 7: stored; 8: alternate; 9: −10": interface 7 is bytes 63 to 71 of the 968
+    -- "M first interface 7: stored; 8: alternate; 9: −10": interface 7 is bytes 63 to 71 of the 968; an endpoint after 8 is skipped, as
+    -- under an alternate
     ∷ walks (bare ++ interface 7) lentRecord ⇒ row (minus 0) 0 (replicate 63 Fill ++ interface 7 ++ replicate 896 Fill)
     ∷ walks (bare ++ interface 8) lentRecord ⇒ row (minus 0) 0 lentRecord
+    ∷ walks (bare ++ interface 8 ++ endpoint) lentRecord ⇒ row (minus 0) 0 lentRecord
     ∷ walks (bare ++ interface 9) lentRecord ⇒ row (minus 10) 0 lentRecord
     ∷ []
 

@@ -31,7 +31,7 @@ use Rattle.usb_types.specs.declared.request.UsbDeviceRequest.{UsbDeviceRequest}
 use Rattle.usb_store.specs.Layout.{Places, Status, ConfigurationValue, Ports, emptyStore}
 use Rattle.usb_store.specs.Access.{byteAt}
 use Rattle.usb_store.specs.Values.{Configured}
-use Rattle.usb_sound.specs.Sound.{IsUsed, IsChild}
+use Rattle.usb_sound.specs.Sound.{IsUsed, IsChild, Sound}
 use Rattle.usb_model.specs.Programs.{Ran, done, fail}
 use Rattle.usb_model.specs.World.{World, M}
 use Rattle.usb_model.specs.Features.{PORT-RESET, C-PORT-RESET, bit}
@@ -153,6 +153,8 @@ pub data Story (s : List ℕ) (place : ℕ) (h : List Event) : Type 0 where
       → Story s place h
 
 pub record Demand (s : List ℕ) (h : List Event) : Type 0 where
+  -- a sound store, so no later call of the list is refused as damaged (−16), and what has children is a hub
+  pub sound : Sound s
   pub story : (place : ℕ) → ShownConfigured s place → Story s place h
   -- the hub and port of a device are one
   pub single : (hub port hub′ port′ place : ℕ) → Stands s hub port place → Stands s hub′ port′ place

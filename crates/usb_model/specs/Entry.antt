@@ -52,6 +52,7 @@ refusedIf b r = if b then refused r else accepted
 abbrev pub wrongLength : Lent → Bool
 wrongLength lent = not (eqb (length (lent .old)) StoreLength) || not (eqb (length (lent .new)) StoreLength)
 
+-- "the old store breaks a rule": `sound` is true exactly where `Sound` holds (usb_sound, proofs/Decides.antt)
 abbrev pub damaged : Lent → Bool
 damaged lent = not (sound (lent .old))
 

@@ -72,17 +72,17 @@ pub record LentBytes (lent : Lent) : Type 0 where
   pub log : Bytes (lent .log)
 
 -- of a call, refused or not: an answer of the table; bytes of the same lengths; whole actions from the start of the log on, and the
--- bytes after them as they were; and as many requests reported as the log has actions of kind 1
+-- bytes after them as they were; and as many requests reported as there are actions of kind 1 among them
 pub record Accounts (lent : Lent) (left : Left) : Type 0 where
   pub answer : Listed (left .answer)
   pub new-length : length (left .new) ≡ length (lent .new)
   pub new-bytes : Bytes (left .new)
+  pub log-length : length (left .log) ≡ length (lent .log)
   pub log-bytes : Bytes (left .log)
   pub actions : ℕ
-  pub news : List ℕ
-  pub news-length : length news ≡ ActionLength * actions
-  pub log : left .log ≡ write (lent .log) 0 news
-  pub requests : left .requests ≡ requestsIn actions news
+  pub room : ActionLength * actions ≤ length (left .log)
+  pub later : drop (ActionLength * actions) (left .log) ≡ drop (ActionLength * actions) (lent .log)
+  pub requests : left .requests ≡ requestsIn actions (left .log)
 
 -- of a walk alone
 pub record WalkAccounts (kept : List ℕ) (left : WalkLeft) : Type 0 where

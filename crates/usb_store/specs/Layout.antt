@@ -56,6 +56,7 @@ LastTransfer = 12
 abbrev pub DeviceDescriptor : ℕ
 DeviceDescriptor = 16
 
+-- bMaxPacketSize0, its byte 7
 abbrev pub MaxPacketSize0 : ℕ
 MaxPacketSize0 = 23
 
@@ -63,9 +64,11 @@ MaxPacketSize0 = 23
 abbrev pub ConfigurationDescriptor : ℕ
 ConfigurationDescriptor = 34
 
+-- wTotalLength, its bytes 2 and 3
 abbrev pub TotalLength : ℕ
 TotalLength = 36
 
+-- bConfigurationValue, its byte 5
 abbrev pub ConfigurationValue : ℕ
 ConfigurationValue = 39
 
@@ -73,9 +76,11 @@ ConfigurationValue = 39
 abbrev pub HubDescriptor : ℕ
 HubDescriptor = 43
 
+-- bNbrPorts, its byte 2
 abbrev pub PortCount : ℕ
 PortCount = 45
 
+-- bPwrOn2PwrGood, its byte 5
 abbrev pub PowerGoodDelay : ℕ
 PowerGoodDelay = 48
 

@@ -36,9 +36,16 @@ pub const LAST_TRANSFER: usize = 12;
 
 pub const DEVICE_DESCRIPTOR: usize = 16;
 
+// bDescriptorType and bDeviceClass.
+pub const DEVICE_TYPE: usize = 17;
+
+pub const DEVICE_CLASS: usize = 20;
+
 pub const MAX_PACKET_SIZE0: usize = 23;
 
 pub const CONFIGURATION_DESCRIPTOR: usize = 34;
+
+pub const CONFIGURATION_TYPE: usize = 35;
 
 pub const TOTAL_LENGTH: usize = 36;
 
@@ -60,12 +67,16 @@ pub const MAX_CHILDREN: usize = 106;
 
 pub const INTERFACES: usize = 128;
 
-// bNumEndpoints and bInterfaceClass of interface 0.
+// bDescriptorType, bNumEndpoints and bInterfaceClass of interface 0.
+pub const INTERFACE_TYPE: usize = 129;
+
 pub const ENDPOINT_COUNT: usize = 132;
 
 pub const INTERFACE_CLASS: usize = 133;
 
-// bEndpointAddress and bmAttributes of interface 0's first endpoint.
+// bDescriptorType, bEndpointAddress and bmAttributes of interface 0's first endpoint.
+pub const ENDPOINT_TYPE: usize = 201;
+
 pub const ENDPOINT_ADDRESS: usize = 202;
 
 pub const ENDPOINT_ATTRIBUTES: usize = 203;
