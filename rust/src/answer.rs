@@ -3,12 +3,13 @@
 use core::error::Error;
 use core::fmt;
 
-/// What a call answers: document 01's table.
+/// What a call answers: document 01's table. Further answers may be added to it.
 ///
 /// ```
 /// use lidrumak::Answer;
 ///
 /// assert_eq!(Answer::from_number(-14), Some(Answer::OutcomesSpent));
+/// assert_eq!(Answer::try_from(-14), Ok(Answer::OutcomesSpent));
 /// assert_eq!(Answer::OutcomesSpent.to_string(), "outcomes spent");
 /// assert_eq!(Answer::ErrorTimeout.number(), -8);
 /// assert_eq!(Answer::from_number(-17), None);
@@ -16,13 +17,16 @@ use core::fmt;
 /// ```
 #[derive(Debug, Clone, Copy, PartialEq, Eq, Hash)]
 #[repr(i32)]
+#[non_exhaustive]
 pub enum Answer {
     /// 0: done.
     Ok = 0,
     /// −1: an undisclosed failure.
     ErrorGeneral = -1,
     /// −2: a bad input. Also a refusal at entry: a store of another length, a
-    /// root speed above 3, no such hub, child or port.
+    /// root speed above 3, no such hub, child or port. Also a child reset or
+    /// check of a device that doesn't stand at the hub (see
+    /// [`Reply::has_ended`]).
     ErrorArgument = -2,
     /// −3: a temporary failure.
     ErrorRetry = -3,
@@ -138,6 +142,33 @@ impl fmt::Display for Answer {
     }
 }
 
+impl TryFrom<i32> for Answer {
+    type Error = Unlisted;
+
+    fn try_from(number: i32) -> Result<Answer, Unlisted> {
+        Answer::from_number(number).ok_or(Unlisted(number))
+    }
+}
+
+/// A number that is no answer.
+#[derive(Debug, Clone, Copy, PartialEq, Eq, Hash)]
+pub struct Unlisted(i32);
+
+impl Unlisted {
+    /// The number.
+    pub const fn number(self) -> i32 {
+        self.0
+    }
+}
+
+impl fmt::Display for Unlisted {
+    fn fmt(&self, f: &mut fmt::Formatter<'_>) -> fmt::Result {
+        write!(f, "{} is no answer", self.0)
+    }
+}
+
+impl Error for Unlisted {}
+
 /// An answer other than [`Answer::Ok`], as an error.
 #[derive(Debug, Clone, Copy, PartialEq, Eq, Hash)]
 pub struct Failure(Answer);
@@ -158,7 +189,7 @@ impl fmt::Display for Failure {
 impl Error for Failure {}
 
 /// What a call hands back.
-#[derive(Debug, Clone, Copy, PartialEq, Eq)]
+#[derive(Debug, Clone, Copy, PartialEq, Eq, Hash)]
 pub struct Reply {
     /// The answer.
     pub answer: Answer,
@@ -178,10 +209,17 @@ impl Reply {
         Reply { answer, requests }
     }
 
+    /// The answer as a `Result`, for `?`.
+    pub const fn result(self) -> Result<(), Failure> {
+        self.answer.result()
+    }
+
     /// Did the call run to its end, so that the new store takes the old one's
-    /// place? Not so after a stop, nor after a refusal at entry: of the other
-    /// answers, only a refusal, and a child reset or check of a device that is
-    /// not the hub's child, which changes nothing, come without a request.
+    /// place? Not so after a stop, nor after a refusal at entry. Of the other
+    /// answers only two kinds come without a request: a refusal, and the −2 of
+    /// a child reset or check, which changes nothing either. It is given for a
+    /// device that is not the hub's child, and for a child whose parent byte is
+    /// 0 or whose port is at or above the hub's MaxChildren.
     pub const fn has_ended(self) -> bool {
         !self.answer.is_stop() && (self.answer.is_ok() || self.requests > 0)
     }

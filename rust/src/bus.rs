@@ -6,12 +6,12 @@ use crate::{Reply, Store};
 ///
 /// A call that runs to its end puts its new store in the old one's place. After
 /// a refusal or a stop the old store stays: a stopped call is repeated with the
-/// same outcomes and more of them, or with a longer log.
+/// same outcomes and more of them, or with the same outcomes and a longer log.
 ///
-/// Each call fills the log with zeros first, so that [`Log`](crate::Log) shows
-/// the actions of that call alone.
+/// Each call fills the log with zeros first, so that
+/// [`Actions`](crate::Actions) shows the actions of that call alone.
 ///
-/// A bus has 73,729 bytes and belongs into a static or onto a heap:
+/// A bus has 73,729 bytes and belongs in a static or on a heap:
 ///
 /// ```
 /// use lidrumak::{Answer, Bus};
@@ -51,7 +51,7 @@ impl Bus {
     }
 
     /// The store, to put a saved one in its place.
-    pub fn store_mut(&mut self) -> &mut Store {
+    pub const fn store_mut(&mut self) -> &mut Store {
         let [first, second] = &mut self.stores;
         if self.second {
             second

@@ -1,5 +1,6 @@
 //! The devices that a store shows.
 
+use core::fmt;
 use core::iter::FusedIterator;
 
 use crate::store::{Place, PLACES};
@@ -28,13 +29,25 @@ impl Speed {
         }
     }
 
-    /// Its number: what [`root_attach`](crate::root_attach) takes.
-    pub const fn number(self) -> u32 {
-        self as u32
+    /// Its number.
+    pub const fn number(self) -> u8 {
+        self as u8
     }
 }
 
-/// How far a device has come (USB 2.0, 9.1).
+/// Document 01's word.
+impl fmt::Display for Speed {
+    fn fmt(&self, f: &mut fmt::Formatter<'_>) -> fmt::Result {
+        f.write_str(match self {
+            Speed::High => "high",
+            Speed::Full => "full",
+            Speed::Low => "low",
+        })
+    }
+}
+
+/// How far a device has come (USB 2.0, 9.1), by the names of the Rust's
+/// `UsbDeviceStatus`.
 #[derive(Debug, Clone, Copy, PartialEq, Eq, PartialOrd, Ord, Hash)]
 #[repr(u8)]
 pub enum Status {
@@ -62,6 +75,24 @@ impl Status {
             _ => None,
         }
     }
+
+    /// Its number.
+    pub const fn number(self) -> u8 {
+        self as u8
+    }
+}
+
+/// The name.
+impl fmt::Display for Status {
+    fn fmt(&self, f: &mut fmt::Formatter<'_>) -> fmt::Result {
+        f.write_str(match self {
+            Status::Attached => "Attached",
+            Status::Powered => "Powered",
+            Status::Default => "Default",
+            Status::Addressed => "Addressed",
+            Status::Configured => "Configured",
+        })
+    }
 }
 
 /// A port of a hub.
@@ -73,8 +104,31 @@ pub struct HubPort {
     pub port: u32,
 }
 
+/// Both numbers as the calls take them.
+impl fmt::Display for HubPort {
+    fn fmt(&self, f: &mut fmt::Formatter<'_>) -> fmt::Result {
+        write!(f, "hub {}, port {}", self.hub, self.port)
+    }
+}
+
+/// What the last read of a port's status brought (USB 2.0, 11.24.2.7).
+#[derive(Debug, Clone, Copy, PartialEq, Eq, Hash)]
+pub struct PortStatus {
+    /// wPortStatus.
+    pub status: u16,
+    /// wPortChange.
+    pub change: u16,
+}
+
+impl PortStatus {
+    /// Is a device connected?
+    pub const fn is_connected(&self) -> bool {
+        self.status & 1 != 0
+    }
+}
+
 /// A used place of a store.
-#[derive(Debug, Clone, Copy, PartialEq, Eq)]
+#[derive(Debug, Clone, Copy, PartialEq, Eq, Hash)]
 pub struct Device {
     /// The place, 0 for the root hub: what the calls take as hub or child.
     pub place: u32,
@@ -147,11 +201,16 @@ fn address(place: u32) -> Option<u8> {
     u8::try_from(place).ok()?.checked_add(1)
 }
 
+fn is_hub(bytes: &Place) -> bool {
+    matches!((bytes[0], bytes[7]), (1, 1 | 2))
+}
+
 /// The ten child bytes of a hub: 0 none, else place + 1.
 fn children(bytes: &Place) -> &[u8] {
-    match (bytes[0], bytes[7]) {
-        (1, 1 | 2) => &bytes[96..106],
-        _ => &[],
+    if is_hub(bytes) {
+        &bytes[96..106]
+    } else {
+        &[]
     }
 }
 
@@ -171,6 +230,18 @@ pub(crate) fn place_on(store: &Store, at: HubPort) -> Option<u32> {
     let port = usize::try_from(at.port).ok()?;
     let byte = children(store.place(at.hub)?).get(port)?;
     u32::from(*byte).checked_sub(1)
+}
+
+/// The stored status of a hub's port.
+pub(crate) fn port_status(store: &Store, at: HubPort) -> Option<PortStatus> {
+    let port = usize::try_from(at.port).ok()?;
+    let bytes = store.place(at.hub).filter(|bytes| is_hub(bytes))?;
+    let mut statuses = bytes[56..96].chunks_exact(4);
+    let &[a, b, c, d] = statuses.nth(port)?.first_chunk()?;
+    Some(PortStatus {
+        status: u16::from_le_bytes([a, b]),
+        change: u16::from_le_bytes([c, d]),
+    })
 }
 
 /// An iterator over the devices of a store, in the order of their places.

@@ -46,7 +46,7 @@
 //! performed.
 //!
 //! ```
-//! use lidrumak::{Action, Answer, Bus, Log, Outcomes, OutcomesIter};
+//! use lidrumak::{Action, Actions, Answer, Bus, Outcomes, OutcomesIter};
 //!
 //! # let sample = include_bytes!(concat!(
 //! #     env!("CARGO_MANIFEST_DIR"),
@@ -59,7 +59,7 @@
 //! let (mut performed, mut waited) = (0, 0);
 //! let reply = loop {
 //!     let reply = bus.root_attach(outcomes.as_bytes(), &mut log, 0);
-//!     for action in Log::new(&log).skip(performed) {
+//!     for action in Actions::new(&log).skip(performed) {
 //!         performed += 1;
 //!         match action {
 //!             Action::Request(_) => outcomes.push(transfers.next().unwrap())?,
@@ -90,13 +90,13 @@ mod log;
 mod outcome;
 mod store;
 
-pub use answer::{Answer, Failure, Reply};
+pub use answer::{Answer, Failure, Reply, Unlisted};
 pub use bus::Bus;
-pub use device::{Device, Devices, HubPort, Route, Speed, Status};
+pub use device::{Device, Devices, HubPort, PortStatus, Route, Speed, Status};
 pub use ffi::{
     child_check, child_reset, configuration_walk, connection_change, port_check, retried_reset,
     root_attach, scan,
 };
-pub use log::{Action, Direction, Log, Request, ACTION_LENGTH};
+pub use log::{Action, Actions, Direction, Request, ACTION_LENGTH};
 pub use outcome::{Outcome, Outcomes, OutcomesIter, Refused, TransferError};
 pub use store::{Store, RECORD_LENGTH, STORE_LENGTH};

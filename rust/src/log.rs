@@ -65,7 +65,7 @@ pub enum Action {
     Request(Request),
     /// Wait.
     Wait {
-        /// So long.
+        /// How long, in microseconds.
         microseconds: u32,
     },
     /// `DwcUpdateHostFrameInterval`.
@@ -132,32 +132,32 @@ const fn request(
 /// others.
 ///
 /// ```
-/// use lidrumak::{root_attach, Action, Answer, Direction, Log, Store};
+/// use lidrumak::{root_attach, Action, Actions, Answer, Direction, Store};
 ///
 /// let mut new = Store::new();
 /// let mut log = [0; 64];
 /// let reply = root_attach(Store::EMPTY.as_bytes(), new.as_bytes_mut(), &[], &mut log, 0);
 /// assert_eq!((reply.answer, reply.requests), (Answer::OutcomesSpent, 1));
 ///
-/// let mut actions = Log::new(&log);
+/// let mut actions = Actions::new(&log);
 /// let Some(Action::Request(request)) = actions.next() else { panic!() };
 /// assert_eq!((request.address, request.direction), (0, Direction::In));
 /// assert_eq!(request.setup, [0x80, 6, 0, 1, 0, 0, 18, 0]); // the device descriptor
 /// assert_eq!(actions.next(), None);
 /// ```
 #[derive(Debug, Clone)]
-pub struct Log<'a> {
+pub struct Actions<'a> {
     rest: &'a [u8],
 }
 
-impl<'a> Log<'a> {
+impl<'a> Actions<'a> {
     /// The actions at the start of these bytes.
-    pub const fn new(bytes: &'a [u8]) -> Log<'a> {
-        Log { rest: bytes }
+    pub const fn new(bytes: &'a [u8]) -> Actions<'a> {
+        Actions { rest: bytes }
     }
 }
 
-impl Iterator for Log<'_> {
+impl Iterator for Actions<'_> {
     type Item = Action;
 
     fn next(&mut self) -> Option<Action> {
@@ -172,4 +172,4 @@ impl Iterator for Log<'_> {
     }
 }
 
-impl FusedIterator for Log<'_> {}
+impl FusedIterator for Actions<'_> {}

@@ -60,6 +60,25 @@ impl TransferError {
     }
 }
 
+/// The name.
+impl fmt::Display for TransferError {
+    fn fmt(&self, f: &mut fmt::Formatter<'_>) -> fmt::Result {
+        f.write_str(match self {
+            TransferError::NoError => "NoError",
+            TransferError::Stall => "Stall",
+            TransferError::BufferError => "BufferError",
+            TransferError::Babble => "Babble",
+            TransferError::NoAcknowledge => "NoAcknowledge",
+            TransferError::CrcError => "CrcError",
+            TransferError::BitError => "BitError",
+            TransferError::ConnectionError => "ConnectionError",
+            TransferError::AhbError => "AhbError",
+            TransferError::NotYetError => "NotYetError",
+            TransferError::Processing => "Processing",
+        })
+    }
+}
+
 /// What one transfer did.
 #[derive(Debug, Clone, Copy, PartialEq, Eq, Hash)]
 pub struct Outcome<'a> {
@@ -73,17 +92,28 @@ pub struct Outcome<'a> {
 }
 
 impl<'a> Outcome<'a> {
-    /// A transfer that succeeded and brought these bytes.
-    pub const fn done(data: &'a [u8]) -> Outcome<'a> {
-        Outcome::failed(TransferError::NoError, data)
-    }
-
-    /// A transfer that ended with this error.
-    pub const fn failed(error: TransferError, data: &'a [u8]) -> Outcome<'a> {
+    /// A transfer that the controller took, with the error that it left, which
+    /// may be none, and the bytes that it brought.
+    pub const fn new(error: TransferError, data: &'a [u8]) -> Outcome<'a> {
         Outcome {
             submit: Answer::Ok,
             error,
             data,
+        }
+    }
+
+    /// A transfer that succeeded and brought these bytes.
+    pub const fn done(data: &'a [u8]) -> Outcome<'a> {
+        Outcome::new(TransferError::NoError, data)
+    }
+
+    /// A transfer that the controller didn't take, and why:
+    /// [`Answer::ErrorGeneral`] to [`Answer::ErrorDisconnected`].
+    pub const fn not_submitted(submit: Answer) -> Outcome<'a> {
+        Outcome {
+            submit,
+            error: TransferError::NoError,
+            data: &[],
         }
     }
 
@@ -142,7 +172,7 @@ impl Error for Refused {}
 /// let mut buffer = [0; 10];
 /// let mut outcomes = Outcomes::new(&mut buffer);
 /// assert_eq!(outcomes.push(Outcome::done(&[7, 8])), Ok(()));
-/// assert_eq!(outcomes.push(Outcome::failed(TransferError::Stall, &[])), Ok(()));
+/// assert_eq!(outcomes.push(Outcome::new(TransferError::Stall, &[])), Ok(()));
 /// assert_eq!(outcomes.push(Outcome::done(&[])), Err(Refused::Full));
 /// assert_eq!(outcomes.as_bytes(), [0, 0, 2, 0, 7, 8, 0, 1, 0, 0]);
 /// assert_eq!(outcomes.iter().count(), 2);
@@ -175,18 +205,30 @@ impl<'a> Outcomes<'a> {
     }
 
     /// The bytes written so far: what a call takes.
-    pub fn as_bytes(&self) -> &[u8] {
-        self.buffer.get(..self.length).unwrap_or_default()
+    pub const fn as_bytes(&self) -> &[u8] {
+        match self.buffer.split_at_checked(self.length) {
+            Some((written, _)) => written,
+            None => &[],
+        }
     }
 
     /// The outcomes written so far.
-    pub fn iter(&self) -> OutcomesIter<'_> {
+    pub const fn iter(&self) -> OutcomesIter<'_> {
         OutcomesIter::new(self.as_bytes())
     }
 
     /// Forgets the outcomes, for the next call.
-    pub fn clear(&mut self) {
+    pub const fn clear(&mut self) {
         self.length = 0;
+    }
+}
+
+impl<'a> IntoIterator for &'a Outcomes<'_> {
+    type Item = Outcome<'a>;
+    type IntoIter = OutcomesIter<'a>;
+
+    fn into_iter(self) -> OutcomesIter<'a> {
+        self.iter()
     }
 }
 

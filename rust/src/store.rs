@@ -2,8 +2,8 @@
 
 use core::fmt;
 
-use crate::device::place_on;
-use crate::{Device, Devices, HubPort, Route};
+use crate::device::{place_on, port_status};
+use crate::{Device, Devices, HubPort, PortStatus, Route};
 
 /// The bytes of a store.
 pub const STORE_LENGTH: usize = 36_864;
@@ -41,7 +41,7 @@ impl Store {
     }
 
     /// The bytes, to write.
-    pub fn as_bytes_mut(&mut self) -> &mut [u8; STORE_LENGTH] {
+    pub const fn as_bytes_mut(&mut self) -> &mut [u8; STORE_LENGTH] {
         &mut self.0
     }
 
@@ -59,6 +59,12 @@ impl Store {
     pub fn device_on(&self, port: HubPort) -> Option<Device> {
         let device = self.device(place_on(self, port)?)?;
         (device.port == Some(port)).then_some(device)
+    }
+
+    /// What the last read of a port's status brought; zeros before the first.
+    /// `None` if there is no such hub, or the port is above 9.
+    pub fn port_status(&self, port: HubPort) -> Option<PortStatus> {
+        port_status(self, port)
     }
 
     /// The ports on the way from the device at a place to the root hub.

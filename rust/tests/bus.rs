@@ -9,7 +9,7 @@
 mod common;
 
 use common::{bench_start, gives, outcome, SAMPLE};
-use lidrumak::{Action, Answer, Bus, Log, Reply, Store, TransferError};
+use lidrumak::{Action, Actions, Answer, Bus, Reply, Store, TransferError};
 
 static ATTACHED: std::sync::Mutex<Bus> = std::sync::Mutex::new(Bus::new());
 
@@ -87,12 +87,12 @@ fn a_stop_keeps_the_old_store() {
 #[test]
 fn a_repeated_call_goes_further() {
     let (_, whole, _) = bench_start();
-    let whole: Vec<Action> = Log::new(&whole).collect();
+    let whole: Vec<Action> = Actions::new(&whole).collect();
     let mut bus = Bus::new();
     let mut log = vec![0; 4096];
     for length in 0..SAMPLE.len() {
         bus.root_attach(&SAMPLE[..length], &mut log, 0);
-        let actions: Vec<Action> = Log::new(&log).collect();
+        let actions: Vec<Action> = Actions::new(&log).collect();
         assert!(whole.starts_with(&actions));
         assert!(actions.last().unwrap().request().is_some());
     }
@@ -152,7 +152,7 @@ fn a_scan_reads_every_port() {
     let outcomes = gives(&[empty, full, high, full, empty, empty]);
     let mut log = [0; 256];
     assert_eq!(told(bus.scan(&outcomes, &mut log, 0)), (0, 6));
-    let requests = Log::new(&log).filter_map(Action::request);
+    let requests = Actions::new(&log).filter_map(Action::request);
     let read: Vec<(u8, u16)> = requests
         .map(|request| (request.address, request.index()))
         .collect();
@@ -168,8 +168,8 @@ fn the_calls_on_one_device() {
     let first = |call: fn(&mut Bus, &mut [u8]) -> Reply| {
         let (mut bus, mut log) = (bus.clone(), [0; 64]);
         assert_eq!(told(call(&mut bus, &mut log)), (-14, 1));
-        let request = Log::new(&log).find_map(Action::request).unwrap();
-        (Log::new(&log).count(), request.setup)
+        let request = Actions::new(&log).find_map(Action::request).unwrap();
+        (Actions::new(&log).count(), request.setup)
     };
     let status = [0xa3, 0, 0, 0, 2, 0, 4, 0];
     let clear_reset_change = [0x23, 1, 20, 0, 2, 0, 0, 0];

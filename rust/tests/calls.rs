@@ -37,7 +37,7 @@ fn on_bench(call: Call, outcomes: &[u8], hub: u32, other: u32) -> (i32, u64, Vec
         hub,
         other,
     );
-    let setups = Log::new(&log)
+    let setups = Actions::new(&log)
         .filter_map(Action::request)
         .map(|request| request.setup)
         .collect();
@@ -177,7 +177,7 @@ fn slices_of_any_length() {
         if !reply.has_ended() && !reply.answer.is_stop() {
             assert!(new.iter().all(|byte| *byte == 7) || new == old);
         }
-        let requests = Log::new(&log).filter_map(Action::request).count() as u64;
+        let requests = Actions::new(&log).filter_map(Action::request).count() as u64;
         assert_eq!(requests, reply.requests);
     }
 }

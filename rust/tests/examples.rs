@@ -17,8 +17,8 @@ mod common;
 
 use common::SAMPLE;
 use kernel_glue::simulated::Simulated;
-use kernel_glue::{drive, is_right, start_bench, Start};
-use lidrumak::{Action, Answer, Bus, Device, HubPort, Log};
+use kernel_glue::{drive, is_right, report, start_bench, Start};
+use lidrumak::{Action, Actions, Answer, Bus, Device, HubPort};
 
 const SAMPLE_FILE: &str = concat!(
     env!("CARGO_MANIFEST_DIR"),
@@ -78,7 +78,7 @@ fn the_glue_performs_each_action_once() {
         assert_eq!(reply.requests, controller.transfers);
         assert!((68..=74).contains(&reply.requests));
         assert_eq!(controller.frame_intervals, 3);
-        let waits = Log::new(&log.borrow()).fold(0, |sum, action| match action {
+        let waits = Actions::new(&log.borrow()).fold(0, |sum, action| match action {
             Action::Wait { microseconds } => sum + u64::from(microseconds),
             _ => sum,
         });
@@ -90,7 +90,7 @@ fn the_glue_performs_each_action_once() {
 /// Whatever the order in which they were found, the routes are the same.
 #[test]
 fn the_glue_finds_both_instruments_over_many_seeds() {
-    let (mut scanned, mut in_other_order) = (0, 0);
+    let (mut found_again, mut in_other_order) = (0, 0);
     for seed in 0..300 {
         let mut controller = Simulated::new(seed, 40);
         let (text, right) = kernel_glue::run(seed, &mut controller);
@@ -100,10 +100,14 @@ fn the_glue_finds_both_instruments_over_many_seeds() {
         assert!(lines[2].starts_with("instrument on 1-3.1: Dev "), "{text}");
         let again = kernel_glue::run(seed, &mut Simulated::new(seed, 40));
         assert_eq!(again, (text.clone(), true), "the same seed");
-        scanned += u32::from(lines[0].contains(": 1 starts, ") && !lines[0].contains(" 0 scans"));
+        found_again +=
+            u32::from(lines[0].contains(": 1 starts, ") && !lines[0].contains(" 0 scans"));
         in_other_order += u32::from(!lines[1].ends_with("Dev 2"));
     }
-    assert!(scanned > 0, "a scan found what the first start missed");
+    assert!(
+        found_again > 0,
+        "the first start missed one, and needed no second"
+    );
     assert!(
         in_other_order > 0,
         "the first instrument was not found first"
@@ -121,7 +125,7 @@ fn the_glue_needs_one_start_without_disturbance() {
     let expected = Start {
         found: Some([first, second]),
         starts: 1,
-        scans: 0,
+        ..Start::default()
     };
     assert_eq!(start, expected);
     assert!(is_right(&controller, &[first, second]));
@@ -131,6 +135,16 @@ fn the_glue_needs_one_start_without_disturbance() {
         ..device
     });
     assert!(!is_right(&controller, &exchanged));
+    let exchanged = Start {
+        found: Some(exchanged),
+        ..start
+    };
+    let (text, right) = report(1, &bus, &exchanged, &controller);
+    assert!(!right);
+    assert!(
+        text.ends_with("\nan instrument is not plugged in there\n"),
+        "{text}"
+    );
 }
 
 #[test]

@@ -9,7 +9,7 @@
 mod common;
 
 use common::{bench_start, Random};
-use lidrumak::{Action, Direction, Log, Request, Speed};
+use lidrumak::{Action, Actions, Direction, Request, Speed};
 
 /// Address and setup bytes of the root hub's first requests.
 const FIRST: [(u8, [u8; 8]); 8] = [
@@ -26,7 +26,7 @@ const FIRST: [(u8, [u8; 8]); 8] = [
 #[test]
 fn the_first_requests_of_the_bench_start() {
     let (_, log, _) = bench_start();
-    let requests: Vec<Request> = Log::new(&log).filter_map(Action::request).collect();
+    let requests: Vec<Request> = Actions::new(&log).filter_map(Action::request).collect();
     for (request, (address, setup)) in requests.iter().zip(FIRST) {
         assert_eq!((request.address, request.setup), (address, setup));
         assert_eq!((request.speed, request.packet_size), (Speed::High, 64));
@@ -45,7 +45,7 @@ fn the_first_requests_of_the_bench_start() {
 #[test]
 fn the_waits_of_the_bench_start() {
     let (_, log, _) = bench_start();
-    let waits: Vec<u32> = Log::new(&log)
+    let waits: Vec<u32> = Actions::new(&log)
         .filter_map(|action| match action {
             Action::Wait { microseconds } => Some(microseconds),
             _ => None,
@@ -54,9 +54,9 @@ fn the_waits_of_the_bench_start() {
     assert_eq!(waits.len(), 4 + 2 + 9);
     assert_eq!(waits[..5], [10_000, 2_000, 300_000, 50_000, 10_000]);
     assert_eq!(waits.iter().sum::<u32>(), 40_000 + 102_000 + 3 * 360_000);
-    let frames = Log::new(&log).filter(|action| *action == Action::FrameInterval);
+    let frames = Actions::new(&log).filter(|action| *action == Action::FrameInterval);
     assert_eq!(frames.count(), 3);
-    assert_eq!(Log::new(&log).count(), 68 + 15 + 3);
+    assert_eq!(Actions::new(&log).count(), 68 + 15 + 3);
 }
 
 #[test]
@@ -118,7 +118,7 @@ fn to_bytes(action: Action) -> Vec<u8> {
         Action::Request(request) => {
             let size = request.packet_size.trailing_zeros() as u8 - 3;
             let direction = u8::from(request.direction == Direction::In);
-            let speed = request.speed.number() as u8;
+            let speed = request.speed.number();
             bytes[..5].copy_from_slice(&[1, request.address, direction, speed, size]);
             bytes[8..].copy_from_slice(&request.setup);
         }
@@ -160,7 +160,7 @@ fn likely_log(random: &mut Random, length: usize) -> Vec<u8> {
 
 /// Returns how many actions there were.
 fn check(bytes: &[u8]) -> usize {
-    let mut log = Log::new(bytes);
+    let mut log = Actions::new(bytes);
     let whole = bytes.chunks_exact(16);
     let expected: Vec<&[u8]> = whole.take_while(|bytes| is_action(bytes)).collect();
     for bytes in &expected {

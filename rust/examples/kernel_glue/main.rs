@@ -12,7 +12,7 @@ pub mod simulated;
 use std::env;
 use std::process::ExitCode;
 
-use lidrumak::{Action, Answer, Bus, Device, Log, Outcome, Outcomes, Reply, Request};
+use lidrumak::{Action, Actions, Answer, Bus, Device, HubPort, Outcome, Outcomes, Reply, Request};
 
 use simulated::{Simulated, INSTRUMENT};
 
@@ -41,7 +41,7 @@ pub fn drive(
     loop {
         let reply = call(bus, outcomes.as_bytes(), &mut log);
         let mut refused = false;
-        for action in Log::new(&log).skip(performed) {
+        for action in Actions::new(&log).skip(performed) {
             performed += 1;
             match action {
                 Action::Wait { microseconds } => controller.sleep(microseconds),
@@ -59,7 +59,7 @@ pub fn drive(
 }
 
 /// How a bench start went.
-#[derive(Debug, PartialEq, Eq)]
+#[derive(Debug, Default, PartialEq, Eq)]
 pub struct Start {
     /// The instruments, if both were found.
     pub found: Option<[Device; 2]>,
@@ -67,45 +67,69 @@ pub struct Start {
     pub starts: u32,
     /// How often it was scanned.
     pub scans: u32,
+    /// How often a connection change was called alone.
+    pub changes: u32,
 }
 
 const STARTS: u32 = 100;
 const SCANS: u32 = 3;
 
-/// Attaches the bus. Where an instrument is missing, scans it again; where that
-/// doesn't help, because a device failed after it had got its place, resets the
-/// bus and begins with an empty store.
+/// Attaches the bus. Where an instrument is missing, looks for it on the bus as
+/// it is; where that doesn't help, because a device failed after it had got its
+/// place, resets the bus and begins with an empty store.
 pub fn start_bench(bus: &mut Bus, controller: &mut Simulated) -> Start {
-    let mut scans = 0;
-    for starts in 1..=STARTS {
+    let mut start = Start::default();
+    while start.found.is_none() && start.starts < STARTS {
+        start.starts += 1;
         controller.reset();
         bus.clear();
-        let mut reply = drive(bus, controller, |bus, outcomes, log| {
+        let reply = drive(bus, controller, |bus, outcomes, log| {
             bus.root_attach(outcomes, log, 0)
         });
+        start.found = instruments(bus);
         for _ in 0..SCANS {
-            if !reply.answer.is_ok() || instruments(bus).is_some() {
-                break;
+            if reply.answer.is_ok() && start.found.is_none() {
+                look_again(bus, controller, &mut start);
+                start.found = instruments(bus);
             }
-            scans += 1;
-            reply = drive(bus, controller, |bus, outcomes, log| {
-                bus.scan(outcomes, log, 0)
-            });
-        }
-        let found = instruments(bus);
-        if found.is_some() {
-            return Start {
-                found,
-                starts,
-                scans,
-            };
         }
     }
-    Start {
-        found: None,
-        starts: STARTS,
-        scans,
+    start
+}
+
+/// A scan finds what a port shows as changed. A connection change that failed
+/// after it had cleared that sign is called again.
+fn look_again(bus: &mut Bus, controller: &mut Simulated, start: &mut Start) {
+    start.scans += 1;
+    drive(bus, controller, |bus, outcomes, log| {
+        bus.scan(outcomes, log, 0)
+    });
+    for HubPort { hub, port } in childless(bus) {
+        start.changes += 1;
+        drive(bus, controller, |bus, outcomes, log| {
+            bus.connection_change(outcomes, log, hub, port)
+        });
     }
+}
+
+/// The ports on which something is connected and no device stands.
+pub fn childless(bus: &Bus) -> Vec<HubPort> {
+    let store = bus.store();
+    let ports = store.devices().flat_map(|device| {
+        let ports = 0..device.ports.map_or(0, u32::from);
+        ports.map(move |port| HubPort {
+            hub: device.place,
+            port,
+        })
+    });
+    ports
+        .filter(|at| {
+            store
+                .port_status(*at)
+                .is_some_and(|port| port.is_connected())
+        })
+        .filter(|at| store.device_on(*at).is_none())
+        .collect()
 }
 
 /// The two instruments, if two stand configured.
@@ -139,14 +163,14 @@ fn route(bus: &Bus, device: &Device) -> String {
     format!("1-{}", ports.join("."))
 }
 
-/// The whole program.
-pub fn run(seed: u64, controller: &mut Simulated) -> (String, bool) {
-    let mut bus = Box::new(Bus::new());
-    let start = start_bench(&mut bus, controller);
+/// What is printed, and whether both instruments were found where they are
+/// plugged in.
+pub fn report(seed: u64, bus: &Bus, start: &Start, controller: &Simulated) -> (String, bool) {
     let mut text = format!(
-        "seed {seed}: {} starts, {} scans, {} transfers, {} of them disturbed, {} ms waited\n",
+        "seed {seed}: {} starts, {} scans, {} connection changes, {} transfers, {} of them disturbed, {} ms waited\n",
         start.starts,
         start.scans,
+        start.changes,
         controller.transfers,
         controller.disturbed,
         controller.microseconds / 1000
@@ -155,12 +179,23 @@ pub fn run(seed: u64, controller: &mut Simulated) -> (String, bool) {
         return (text + "an instrument is missing\n", false);
     };
     let mut lines = found.map(|device| {
-        let route = route(&bus, &device);
+        let route = route(bus, &device);
         format!("instrument on {route}: Dev {}\n", device.address)
     });
     lines.sort();
     text += &lines.concat();
-    (text, is_right(controller, &found))
+    let right = is_right(controller, &found);
+    if !right {
+        text += "an instrument is not plugged in there\n";
+    }
+    (text, right)
+}
+
+/// The whole program.
+pub fn run(seed: u64, controller: &mut Simulated) -> (String, bool) {
+    let mut bus = Box::new(Bus::new());
+    let start = start_bench(&mut bus, controller);
+    report(seed, &bus, &start, controller)
 }
 
 fn main() -> ExitCode {

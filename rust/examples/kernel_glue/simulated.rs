@@ -301,7 +301,7 @@ impl HostController for Simulated {
         };
         let arrived = &mut buffer[..data.len()];
         arrived.copy_from_slice(&data);
-        Outcome::failed(error, arrived)
+        Outcome::new(error, arrived)
     }
 
     fn sleep(&mut self, microseconds: u32) {
