@@ -1,6 +1,12 @@
 /*
  * Lidrumak: a USB core and hub driver whose promises are proved by machine.
- * Link with liblidrumak.a. It needs memcpy and memset and nothing else.
+ * Link with liblidrumak.a. It needs at most memcpy and memset, today only memset.
+ *
+ * Its code is for x86-64. It uses the 128 bytes below the stack pointer (the red
+ * zone) and SSE registers, and there is no option against either. A kernel calls
+ * it where no interrupt can overwrite those bytes: with interrupts off, or where
+ * they are handled on another stack; with SSE enabled; and with the SSE registers
+ * saved as those of a user's program are.
  *
  * A slice is a pointer and a length in bytes. Slices may have any length and
  * content. Those that a call writes (new_store, log, record) overlap no other
@@ -77,6 +83,8 @@ struct lidrumak_reply lidrumak_connection_change(LIDRUMAK_SLICES, uint32_t hub, 
 /* The configuration walk alone, over at most 65,535 descriptor bytes. Returns the answer. */
 int32_t lidrumak_configuration_walk(const uint8_t *descriptors, size_t descriptors_length,
                                     uint8_t *record, size_t record_length);
+
+#undef LIDRUMAK_SLICES
 
 #ifdef __cplusplus
 }

@@ -8,6 +8,7 @@ const VARIABLE: &str = "LIDRUMAK_LIBRARY";
 const ROOT: &str = "..";
 const DEFAULT: &str = "../target/staticlib";
 const FILE: &str = "liblidrumak.a";
+const ARCHITECTURE: &str = "x86_64";
 
 fn main() {
     println!("cargo::rerun-if-changed=build.rs");
@@ -29,6 +30,13 @@ fn library_folder() -> Result<PathBuf, String> {
         let named = PathBuf::from(named);
         return found_in(&named)
             .ok_or_else(|| format!("{VARIABLE} names {}, which has no {FILE}", named.display()));
+    }
+    let target = env::var("CARGO_CFG_TARGET_ARCH").unwrap_or_default();
+    if target != ARCHITECTURE {
+        return Err(format!(
+            "'rt staticlib lidrumak' writes {FILE} for {ARCHITECTURE}, and the target is {target}: \
+             set {VARIABLE} to the folder of one for that"
+        ));
     }
     if let Some(folder) = found_in(Path::new(DEFAULT)) {
         return Ok(folder);

@@ -34,6 +34,7 @@ const TABLE: [(i32, Answer, &str); 17] = [
 fn numbers_and_words_of_the_table() {
     for (number, answer, word) in TABLE {
         assert_eq!(Answer::from_number(number), Some(answer));
+        assert_eq!(Answer::try_from(number), Ok(answer));
         assert_eq!(answer.number(), number);
         assert_eq!(answer.to_string(), word);
         assert_eq!(Reply::from_numbers(number, 7).answer, answer);
@@ -45,7 +46,12 @@ fn a_number_outside_the_table() {
     for number in (-1000..=1000).chain([i32::MIN, i32::MAX]) {
         let listed = TABLE.iter().any(|line| line.0 == number);
         assert_eq!(Answer::from_number(number).is_some(), listed, "{number}");
+        assert_eq!(Answer::try_from(number).is_ok(), listed, "{number}");
     }
+    let error = Answer::try_from(-17).unwrap_err();
+    assert_eq!(error.number(), -17);
+    let error: Box<dyn Error> = Box::new(error);
+    assert_eq!(error.to_string(), "-17 is no answer");
     let reply = Reply::from_numbers(-17, 5);
     assert_eq!((reply.answer, reply.requests), (Answer::ErrorCompiler, 5));
 }
@@ -61,8 +67,10 @@ fn stops_are_the_answers_13_to_15() {
 #[test]
 fn every_answer_but_ok_is_an_error() {
     assert_eq!(Answer::Ok.result(), Ok(()));
-    for (_, answer, word) in &TABLE[1..] {
+    assert_eq!(Reply::from_numbers(0, 68).result(), Ok(()));
+    for (number, answer, word) in &TABLE[1..] {
         let failure = answer.result().unwrap_err();
+        assert_eq!(Reply::from_numbers(*number, 5).result(), Err(failure));
         assert_eq!(failure.answer(), *answer);
         let error: Box<dyn Error> = Box::new(failure);
         assert_eq!(error.to_string(), *word);

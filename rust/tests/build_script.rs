@@ -38,10 +38,15 @@ fn put_rt(root: &Path, script: &str) {
 
 /// The build script's line on where it links from, or on what is wrong.
 fn build(root: &Path, variable: Option<&Path>) -> String {
+    build_for("x86_64", root, variable)
+}
+
+fn build_for(target: &str, root: &Path, variable: Option<&Path>) -> String {
     let mut command = Command::new(root.join("build"));
     command
         .current_dir(root.join("rust"))
         .env("PATH", root.join("tools"))
+        .env("CARGO_CFG_TARGET_ARCH", target)
         .env_remove("LIDRUMAK_LIBRARY");
     if let Some(folder) = variable {
         command.env("LIDRUMAK_LIBRARY", folder);
@@ -100,4 +105,20 @@ fn without_a_library_rt_writes_it() {
     assert_eq!(build(&root, None), linked(&root.join("target/staticlib")));
     let words = fs::read_to_string(root.join(library)).unwrap();
     assert_eq!(words, "staticlib lidrumak\n");
+}
+
+#[test]
+fn the_usual_library_is_for_x86_64_alone() {
+    let root = repository("build_target");
+    let (named, usual) = (root.join("elsewhere"), root.join("target/staticlib"));
+    put_library(&named);
+    put_library(&usual);
+    assert_eq!(build_for("x86_64", &root, None), linked(&usual));
+    let line = "'rt staticlib lidrumak' writes liblidrumak.a for x86_64, and the target is \
+        aarch64: set LIDRUMAK_LIBRARY to the folder of one for that";
+    assert_eq!(
+        build_for("aarch64", &root, None),
+        format!("cargo::error={line}")
+    );
+    assert_eq!(build_for("aarch64", &root, Some(&named)), linked(&named));
 }

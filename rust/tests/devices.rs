@@ -9,7 +9,7 @@
 mod common;
 
 use common::{bench_start, Random};
-use lidrumak::{Device, HubPort, Speed, Status, Store, STORE_LENGTH};
+use lidrumak::{Device, HubPort, PortStatus, Speed, Status, Store, STORE_LENGTH};
 
 const fn at(hub: u32, port: u32) -> HubPort {
     HubPort { hub, port }
@@ -103,6 +103,57 @@ fn the_way_to_the_root_hub() {
     assert_eq!(route(u32::MAX), []);
 }
 
+/// Port statuses as the bench start's last reads bring them.
+#[test]
+fn the_statuses_of_the_ports() {
+    let (mut store, _, _) = bench_start();
+    let status = |status| Some(PortStatus { status, change: 0 });
+    for (hub, port, expected) in [
+        (0, 0, status(0x100)),
+        (0, 1, status(0x103)),
+        (0, 2, status(0x503)),
+        (0, 3, status(0x100)),
+        (0, 4, status(0)),
+        (0, 9, status(0)),
+        (0, 10, None),
+        (0, u32::MAX, None),
+        (1, 0, None),
+        (2, 0, status(0x103)),
+        (2, 1, status(0x100)),
+        (4, 0, None),
+        (32, 0, None),
+    ] {
+        let read = store.port_status(at(hub, port));
+        assert_eq!(read, expected, "{}", at(hub, port));
+        let connected = matches!((hub, port), (0, 1 | 2) | (2, 0));
+        assert_eq!(read.is_some_and(|read| read.is_connected()), connected);
+    }
+    store.as_bytes_mut()[56 + 36..96].copy_from_slice(&[0xfe, 0x34, 0x56, 0x78]);
+    let read = store.port_status(at(0, 9)).unwrap();
+    assert_eq!((read.status, read.change), (0x34fe, 0x7856));
+    assert!(!read.is_connected());
+}
+
+#[test]
+fn numbers_and_words() {
+    for (number, word) in ["high", "full", "low"].into_iter().enumerate() {
+        let speed = Speed::from_number(number as u8).unwrap();
+        assert_eq!(usize::from(speed.number()), number);
+        assert_eq!(speed.to_string(), word);
+    }
+    let words = ["Attached", "Powered", "Default", "Addressed", "Configured"];
+    for (number, word) in words.into_iter().enumerate() {
+        let status = Status::from_number(number as u8).unwrap();
+        assert_eq!(usize::from(status.number()), number);
+        assert_eq!(status.to_string(), word);
+    }
+    for number in 0..=255 {
+        assert_eq!(Speed::from_number(number).is_some(), number < 3);
+        assert_eq!(Status::from_number(number).is_some(), number < 5);
+    }
+    assert_eq!(at(2, 9).to_string(), "hub 2, port 9");
+}
+
 /// Place, its byte, the new value: the device is passed over, or not.
 #[test]
 fn a_place_with_an_unlisted_value_is_passed_over() {
@@ -175,6 +226,9 @@ fn check(store: &Store) -> usize {
     }
     for hub in 0..33 {
         for port in 0..11 {
+            if port == 10 || hub == 32 {
+                assert_eq!(store.port_status(at(hub, port)), None);
+            }
             if let Some(device) = store.device_on(at(hub, port)) {
                 assert_eq!(device.port, Some(at(hub, port)));
             }

@@ -90,7 +90,7 @@ fn the_glue_performs_each_action_once() {
 /// Whatever the order in which they were found, the routes are the same.
 #[test]
 fn the_glue_finds_both_instruments_over_many_seeds() {
-    let (mut found_again, mut in_other_order) = (0, 0);
+    let (mut by_a_scan, mut by_a_change, mut in_other_order) = (0, 0, 0);
     for seed in 0..300 {
         let mut controller = Simulated::new(seed, 40);
         let (text, right) = kernel_glue::run(seed, &mut controller);
@@ -100,14 +100,12 @@ fn the_glue_finds_both_instruments_over_many_seeds() {
         assert!(lines[2].starts_with("instrument on 1-3.1: Dev "), "{text}");
         let again = kernel_glue::run(seed, &mut Simulated::new(seed, 40));
         assert_eq!(again, (text.clone(), true), "the same seed");
-        found_again +=
-            u32::from(lines[0].contains(": 1 starts, ") && !lines[0].contains(" 0 scans"));
+        by_a_scan += u32::from(lines[0].contains(": 1 starts, 1 scans, 0 connection changes, "));
+        by_a_change += u32::from(lines[0].contains(": 1 starts, 1 scans, 1 connection changes, "));
         in_other_order += u32::from(!lines[1].ends_with("Dev 2"));
     }
-    assert!(
-        found_again > 0,
-        "the first start missed one, and needed no second"
-    );
+    assert!(by_a_scan > 0, "a scan found what the first start missed");
+    assert!(by_a_change > 0, "a connection change found it");
     assert!(
         in_other_order > 0,
         "the first instrument was not found first"

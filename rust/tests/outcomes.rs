@@ -31,6 +31,41 @@ fn an_outcome_is_a_header_and_its_data() {
 }
 
 #[test]
+fn the_ways_to_make_an_outcome() {
+    let mut buffer = [9; 20];
+    let mut outcomes = Outcomes::new(&mut buffer);
+    let made = [
+        Outcome::done(&[7]),
+        Outcome::new(TransferError::NoError, &[7]),
+        Outcome::new(TransferError::Babble, &[]),
+        Outcome::not_submitted(Answer::ErrorRetry),
+    ];
+    for outcome in made {
+        outcomes.push(outcome).unwrap();
+    }
+    let bytes = [0, 0, 1, 0, 7, 0, 0, 1, 0, 7, 0, 3, 0, 0, 3, 0, 0, 0];
+    assert_eq!(outcomes.as_bytes(), bytes);
+    let results = made.map(|outcome| outcome.result().number());
+    assert_eq!(results, [0, 0, -4, -3]);
+    let mut read = vec![];
+    for outcome in &outcomes {
+        read.push(outcome);
+    }
+    assert_eq!(read, made);
+}
+
+#[test]
+fn the_words_of_a_refusal() {
+    let words = [Refused::Garbled, Refused::TooLong, Refused::Full].map(|it| it.to_string());
+    let expected = [
+        "the submit code is not one of 0 to -9",
+        "over 65,535 bytes of data",
+        "no room for the outcome",
+    ];
+    assert_eq!(words, expected);
+}
+
+#[test]
 fn a_full_buffer_takes_no_more() {
     let mut buffer = [9; 9];
     let mut outcomes = Outcomes::new(&mut buffer);
@@ -84,6 +119,9 @@ fn errors_are_0_to_9_and_31() {
         let error = TransferError::from_number(number);
         assert_eq!(error.is_some(), matches!(number, 0..=9 | 31), "{number}");
         assert_eq!(error.map_or(number, TransferError::number), number);
+        if let Some(error) = error {
+            assert_eq!(error.to_string(), format!("{error:?}"));
+        }
         let count = OutcomesIter::new(&[0, number, 0, 0]).count();
         assert_eq!(count, usize::from(error.is_some()), "{number}");
     }
