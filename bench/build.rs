@@ -1,4 +1,4 @@
-//! Hears from ../reference whether the original was found.
+//! Sets `have_original` if ../reference has found the original.
 
 fn main() {
     println!("cargo::rerun-if-changed=build.rs");

@@ -1,5 +1,5 @@
-//! Finds the port's static library and hears from ../reference whether the
-//! original was found.
+//! Finds the port's static library, and sets `have_original` if ../reference has
+//! found the original.
 
 use std::env;
 use std::path::Path;

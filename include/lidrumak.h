@@ -4,9 +4,9 @@
  *
  * Its code is for x86-64. It uses the 128 bytes below the stack pointer (the red
  * zone) and SSE registers, and there is no option against either. A kernel calls
- * it where no interrupt can overwrite those bytes: with interrupts off, or where
- * they are handled on another stack; with SSE enabled; and with the SSE registers
- * saved as those of a user's program are.
+ * it where no interrupt can overwrite those bytes (interrupts off, or handled on
+ * another stack), with SSE enabled, and with its registers saved before the call
+ * and restored after it, as for user code.
  *
  * A slice is a pointer and a length in bytes. Slices may have any length and
  * content. Those that a call writes (new_store, log, record) overlap no other

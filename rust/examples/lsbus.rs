@@ -1,9 +1,12 @@
 //! Attaches an empty store with the outcomes of a file, or of standard input,
-//! and prints the bus as `lsusb -t` does, ports counted from 1:
+//! and prints the bus as `lsusb -t` of usbutils before 014 does, ports counted
+//! from 1:
 //!
 //!     lsbus [--speed 0|1|2] [FILE]
 //!
-//! The exit status is 0 if the answer is OK, else 1.
+//! Of each device interface 0 is shown, on which the driver decides. Then come
+//! the devices in the order of their addresses, the answer and the number of
+//! requests. The exit status is 0 if the answer is OK, else 1.
 #![allow(clippy::arithmetic_side_effects)]
 
 use std::env;
@@ -67,7 +70,7 @@ fn options(arguments: &[String]) -> io::Result<(u32, Option<&str>)> {
 
 fn print(store: &Store, reply: Reply, output: &mut impl Write) -> io::Result<()> {
     if let Some(root) = store.device(0) {
-        writeln!(output, "/:  Bus 001.Port 1: {}", describe(&root))?;
+        writeln!(output, "/:  Bus 01.Port 1: {}", describe_root(&root))?;
         print_children(store, &root, 1, output)?;
     }
     for device in store.devices() {
@@ -98,35 +101,54 @@ fn print_children(
     Ok(())
 }
 
+fn describe_root(root: &Device) -> String {
+    let (address, speed) = (root.address, megabits(root.speed));
+    let ports = root.ports.unwrap_or(0);
+    format!("Dev {address}, Class=root_hub, Driver=lidrumak/{ports}p, {speed}M")
+}
+
 fn describe(device: &Device) -> String {
-    let address = device.address;
+    let (address, speed) = (device.address, megabits(device.speed));
     let class = class(device.class);
     let driver = match device.ports {
         Some(ports) => format!("hub/{ports}p"),
-        None => "none".to_string(),
+        None => String::new(),
     };
-    let speed = match device.speed {
-        Speed::High => "480M",
-        Speed::Full => "12M",
-        Speed::Low => "1.5M",
-    };
-    format!("Dev {address}, Class={class}, Driver={driver}, {speed}")
+    format!("Dev {address}, If 0, Class={class}, Driver={driver}, {speed}M")
+}
+
+fn megabits(speed: Speed) -> &'static str {
+    match speed {
+        Speed::High => "480",
+        Speed::Full => "12",
+        Speed::Low => "1.5",
+    }
 }
 
 /// The names that `lsusb` has for the classes of interfaces.
-fn class(class: u8) -> String {
-    let name = match class {
+fn class(class: u8) -> &'static str {
+    match class {
+        0 => "(Defined at Interface level)",
         1 => "Audio",
         2 => "Communications",
         3 => "Human Interface Device",
+        5 => "Physical Interface Device",
+        6 => "Imaging",
         7 => "Printer",
         8 => "Mass Storage",
         9 => "Hub",
+        10 => "CDC Data",
+        11 => "Chip/SmartCard",
+        13 => "Content Security",
+        14 => "Video",
+        15 => "Personal Healthcare",
+        0xdc => "Diagnostic",
+        0xe0 => "Wireless",
+        0xef => "Miscellaneous Device",
         0xfe => "Application Specific Interface",
         0xff => "Vendor Specific Class",
-        other => return format!("0x{other:02x}"),
-    };
-    name.to_string()
+        _ => "[unknown]",
+    }
 }
 
 fn stand(device: &Device) -> String {
@@ -141,5 +163,5 @@ fn stand(device: &Device) -> String {
         status,
         ..
     } = device;
-    format!("Dev {address}: ID {vendor:04x}:{product:04x}, {place}, {status:?}")
+    format!("Dev {address}: ID {vendor:04x}:{product:04x}, {place}, {status}")
 }

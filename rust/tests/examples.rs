@@ -46,7 +46,7 @@ fn lsbus_prints_the_bench_start() {
 fn lsbus_prints_what_a_stopped_call_left() {
     let (answer, text) = lsbus(&[], &[]).unwrap();
     assert_eq!(answer, Answer::OutcomesSpent);
-    let expected = "/:  Bus 001.Port 1: Dev 1, Class=0x00, Driver=none, 480M\n\
+    let expected = "/:  Bus 01.Port 1: Dev 1, Class=root_hub, Driver=lidrumak/0p, 480M\n\
         Dev 1: ID 0000:0000, the root hub, Powered\n\
         outcomes spent, 1 requests\n";
     assert_eq!(text, expected);

@@ -151,6 +151,20 @@ fn an_instrument_on_the_second_hub_is_lost_and_found() {
     }
 }
 
+/// The hub on the next port, and then the instrument, meet each other at address
+/// 0.
+#[test]
+fn a_reset_that_failed_at_its_end_disturbs_the_next_device() {
+    let (setup, count, acts, _) = LAST_CLEAR;
+    let (mut bus, mut controller) = attached(1, setup(2), count, acts);
+    let [instrument, hub] = [1, 2].map(|port| HubPort { hub: 0, port });
+    assert_eq!(status_on(&bus, instrument), None);
+    assert_eq!(status_on(&bus, hub), Some(Status::Attached));
+    let reply = connection_change(&mut bus, &mut controller, instrument);
+    assert_eq!(reply.answer, Answer::ErrorDevice);
+    assert_eq!(status_on(&bus, instrument), Some(Status::Attached));
+}
+
 /// SetAddress, to address 0: the device has its place, and nothing tries it
 /// again.
 #[test]
