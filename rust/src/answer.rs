@@ -25,8 +25,8 @@ pub enum Answer {
     ErrorGeneral = -1,
     /// −2: a bad input. Also a refusal at entry: a store of another length, a
     /// root speed above 3, no such hub, child or port. Also a child reset or
-    /// check of a device that doesn't stand at the hub (see
-    /// [`Reply::has_ended`]).
+    /// check of a device that is not the hub's child; see
+    /// [`Reply::has_ended`].
     ErrorArgument = -2,
     /// −3: a temporary failure.
     ErrorRetry = -3,

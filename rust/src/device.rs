@@ -29,7 +29,7 @@ impl Speed {
         }
     }
 
-    /// Its number.
+    /// Its number; [`root_attach`](crate::root_attach) takes it as a `u32`.
     pub const fn number(self) -> u8 {
         self as u8
     }
@@ -121,7 +121,7 @@ pub struct PortStatus {
 }
 
 impl PortStatus {
-    /// Is a device connected?
+    /// Does it show a connected device (bit 0)?
     pub const fn is_connected(&self) -> bool {
         self.status & 1 != 0
     }

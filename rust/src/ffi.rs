@@ -1,5 +1,6 @@
 //! The functions of the static library. Nothing checks these declarations
-//! against the library's source, crates/lidrumak/src/lib.rt.
+//! against the library's source, crates/lidrumak/src/lib.rt; tests/c_header.rs
+//! compares the calls with those through include/lidrumak.h.
 #![allow(unsafe_code)]
 
 use crate::{Answer, Reply};

@@ -146,6 +146,24 @@ fn a_refusal_at_entry_leaves_the_new_store() {
     }
 }
 
+/// A hub's own child whose parent byte is 0, or whose port is not below the hub's
+/// MaxChildren.
+#[test]
+fn a_child_that_is_answered_without_a_request() {
+    for (byte, value) in [(1152 + 6, 0), (106, 1)] {
+        let (mut old, _, _) = bench_start();
+        old.as_bytes_mut()[byte] = value;
+        assert_eq!(old.device(1).unwrap().port.unwrap().port, 1);
+        for call in [child_reset, child_check] {
+            let mut new = vec![7; STORE_LENGTH];
+            let reply = call(old.as_bytes(), &mut new, &[], &mut [0; 64], 0, 1);
+            assert_eq!((reply.answer, reply.requests), (Answer::ErrorArgument, 0));
+            assert!(!reply.has_ended());
+            assert_eq!(new, old.as_bytes());
+        }
+    }
+}
+
 /// Lengths of the slices and numbers of any size. A store of another length is
 /// -2 and leaves every byte.
 #[test]

@@ -75,8 +75,9 @@ const STARTS: u32 = 100;
 const SCANS: u32 = 3;
 
 /// Attaches the bus. Where an instrument is missing, looks for it on the bus as
-/// it is; where that doesn't help, because a device failed after it had got its
-/// place, resets the bus and begins with an empty store.
+/// it is. That doesn't help where a device failed after it had got its place, or
+/// a hub after it was configured: then the bus is reset, and attached to an empty
+/// store.
 pub fn start_bench(bus: &mut Bus, controller: &mut Simulated) -> Start {
     let mut start = Start::default();
     while start.found.is_none() && start.starts < STARTS {
@@ -97,8 +98,9 @@ pub fn start_bench(bus: &mut Bus, controller: &mut Simulated) -> Start {
     start
 }
 
-/// A scan finds what a port shows as changed. A connection change that failed
-/// after it had cleared that sign is called again.
+/// A scan finds a device whose port still shows the connection change. Where a
+/// connection change has cleared that and then failed, a scan passes over the
+/// port, and the connection change is called alone.
 fn look_again(bus: &mut Bus, controller: &mut Simulated, start: &mut Start) {
     start.scans += 1;
     drive(bus, controller, |bus, outcomes, log| {
@@ -122,12 +124,12 @@ pub fn childless(bus: &Bus) -> Vec<HubPort> {
             port,
         })
     });
+    let is_connected = |at: &HubPort| {
+        let status = store.port_status(*at);
+        status.is_some_and(|status| status.is_connected())
+    };
     ports
-        .filter(|at| {
-            store
-                .port_status(*at)
-                .is_some_and(|port| port.is_connected())
-        })
+        .filter(is_connected)
         .filter(|at| store.device_on(*at).is_none())
         .collect()
 }
@@ -167,7 +169,8 @@ fn route(bus: &Bus, device: &Device) -> String {
 /// plugged in.
 pub fn report(seed: u64, bus: &Bus, start: &Start, controller: &Simulated) -> (String, bool) {
     let mut text = format!(
-        "seed {seed}: {} starts, {} scans, {} connection changes, {} transfers, {} of them disturbed, {} ms waited\n",
+        "seed {seed}: {} starts, {} scans, {} connection changes, \
+         {} transfers, {} of them disturbed, {} ms waited\n",
         start.starts,
         start.scans,
         start.changes,
