@@ -30,7 +30,7 @@ extern "C" {
 enum {
     LIDRUMAK_OK = 0,
     LIDRUMAK_ERROR_GENERAL = -1,
-    LIDRUMAK_ERROR_ARGUMENT = -2, /* also: store length, root speed above 3, no such hub, child or port */
+    LIDRUMAK_ERROR_ARGUMENT = -2, /* also: store length, root speed above 3, no such hub, child or port, not that hub's child */
     LIDRUMAK_ERROR_RETRY = -3,
     LIDRUMAK_ERROR_DEVICE = -4, /* also: the root hub is already attached */
     LIDRUMAK_ERROR_INCOMPATIBLE = -5,
@@ -77,7 +77,7 @@ struct lidrumak_reply lidrumak_child_check(LIDRUMAK_SLICES, uint32_t hub, uint32
 /* HubPortReset: in up to three tries. */
 struct lidrumak_reply lidrumak_retried_reset(LIDRUMAK_SLICES, uint32_t hub, uint32_t port);
 
-/* HubPortConnectionChanged: attaches what was connected. */
+/* HubPortConnectionChanged: attaches what was connected, also where an earlier one cleared the change and failed, so that a scan sees none. */
 struct lidrumak_reply lidrumak_connection_change(LIDRUMAK_SLICES, uint32_t hub, uint32_t port);
 
 /* The configuration walk alone, over at most 65,535 descriptor bytes. Returns the answer. */

@@ -80,7 +80,8 @@ calls! {
     retried_reset, lidrumak_retried_reset, hub, port;
 
     /// `HubPortConnectionChanged`: attaches what was connected to a port,
-    /// counted from 0.
+    /// counted from 0; also where an earlier connection change of that port
+    /// failed after it had cleared the change, so that a scan sees none.
     connection_change, lidrumak_connection_change, hub, port;
 }
 
