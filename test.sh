@@ -23,7 +23,7 @@ make --no-print-directory reference
 reference=$?
 # The library that the other tests link is built in the copy, from the crates that this rt ci has proved: it owns target/.
 until [ -f target/stamp/lidrumak ] || ! kill -0 $ci 2>/dev/null; do sleep 1; done
-cp -R target/rlib target/stamp "$copy/target" && make --no-print-directory compare rust TREE="$copy"
+cp -R target/stamp "$copy/target" && cp -R target/rlib "$copy/target" && make --no-print-directory compare rust TREE="$copy"
 port=$?
 wait $ci
 verdict=$? ci=''
