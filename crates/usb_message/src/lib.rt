@@ -131,7 +131,7 @@ fn receive(
     asked: u16,
     buffer: Buffer,
 ) -> Transfer
-    requires { ⌜ (length (now store) ≡ StoreLength) × Fits place buffer × (at .taken ≤ length (now outcomes)) ⌝ }
+    requires { ⌜ (length (now store) ≡ StoreLength) × Fits place buffer × (at .taken ≤ length (now outcomes)) × (at .requests ≤ at .logged) ⌝ }
     ensures { λ r. ⌜ Receives (receiving place asked buffer) store outcomes at r ⌝ }
 {
     let taken = at.taken;
