@@ -34,20 +34,24 @@ pub all-counted : (log : List ℕ) (n : ℕ) → 4096 ≤ n → actionsIn (4096 
 unfolding actionsIn
 all-counted log n l = let none : 4096 - n ≡ 0 = omega arith in rw none refl
 
--- the bytes that a root attach on an empty store logged
-module _ (outcomes empty empty′ log log₀ new log′ : List ℕ) (r : Reply) (n : ℕ) (z : empty ≡ empty′) (e : log ≡ log₀)
-    (d : left r new log′ ≡ rootAttach 0 (lent empty empty outcomes log)) (is : n ≡ actionsIn 4096 log′) where
-  written-on : take (n * 16) log′ ≡ logged (rootAttach 0 (lent empty′ empty′ outcomes log₀) .log)
-  unfolding logged
-  written-on =
-      ap (λ (k : ℕ). take (k * 16) log′) is ∙ ap (λ (l : Left). logged (l .log)) d
-      ∙ ap (λ (s : List ℕ). logged (rootAttach 0 (lent s s outcomes log) .log)) z
-      ∙ ap (λ (l : List ℕ). logged (rootAttach 0 (lent empty′ empty′ outcomes l) .log)) e
+-- the log that a root attach on an empty store leaves
+module _ (outcomes empty empty′ log log₀ new log′ : List ℕ) (r : Reply) (z : empty ≡ empty′) (e : log ≡ log₀)
+    (d : left r new log′ ≡ rootAttach 0 (lent empty empty outcomes log)) where
+  left-on : log′ ≡ rootAttach 0 (lent empty′ empty′ outcomes log₀) .log
+  left-on =
+      ap (λ (l : Left). l .log) d
+      ∙ ap (λ (s : List ℕ). rootAttach 0 (lent s s outcomes log) .log) z
+      ∙ ap (λ (l : List ℕ). rootAttach 0 (lent empty′ empty′ outcomes l) .log) e
 
-pub written : (outcomes empty log new log′ : List ℕ) (r : Reply) (n : ℕ) → empty ≡ replicate StoreLength 0 → log ≡ replicate LogLength 0
-    → left r new log′ ≡ rootAttach 0 (lent empty empty outcomes log) → n ≡ actionsIn 4096 log′ → take (n * 16) log′ ≡ busrun outcomes
-unfolding busrun attached
-written outcomes empty log new log′ r n z e d is = written-on outcomes empty (replicate StoreLength 0) log (replicate LogLength 0) new log′ r n z e d is
+pub log-left : (outcomes empty log new log′ : List ℕ) (r : Reply) → empty ≡ replicate StoreLength 0 → log ≡ replicate LogLength 0
+    → left r new log′ ≡ rootAttach 0 (lent empty empty outcomes log) → log′ ≡ attached outcomes .log
+unfolding attached
+log-left outcomes empty log new log′ r z e d = left-on outcomes empty (replicate StoreLength 0) log (replicate LogLength 0) new log′ r z e d
+
+-- the bytes of its actions
+pub written : (outcomes log′ : List ℕ) (n : ℕ) → log′ ≡ attached outcomes .log → n ≡ actionsIn 4096 log′ → take (n * 16) log′ ≡ busrun outcomes
+unfolding busrun logged
+written outcomes log′ n e is = ap (λ (k : ℕ). take (k * 16) log′) is ∙ ap logged e
 
 pub log-long : {log : List ℕ} → log ≡ replicate LogLength 0 → length log ≡ LogLength
 log-long e = ap length e ∙ length-replicate {A = ℕ} LogLength 0

@@ -5,10 +5,11 @@ use lidrumak::lidrumak_root_attach;
 use usb_store::STORE_LEN;
 use usb_types::pipe::ACTION_LEN;
 ghost use mathlib.Core.Path.{_≡_};
-ghost use Prim.Native.Nat.{_≤_};
+ghost use Prim.Native.Nat.{_*_, _≤_};
 ghost use lib.ListN.{length, take, replicate};
+ghost use Rattle.usb_types.specs.Actions.{ActionLength};
 ghost use Rattle.io.specs.Counts.{Counts};
-ghost use Rattle.busrun.specs.Run.{LogLength, actionsIn, busrun};
+ghost use Rattle.busrun.specs.Run.{LogLength, actionsIn, attached, busrun};
 
 const MAX_ACTIONS: usize = 4096;
 
@@ -30,6 +31,8 @@ fn actions(log: &[u8]) -> usize
 // Attaches the root hub; how many bytes were logged.
 fn attach(outcomes: &[u8], log: &mut [u8]) -> usize
     requires { ⌜ now log ≡ replicate LogLength 0 ⌝ }
+    ensures { λ r. ⌜ now (log .exit) ≡ attached (now (outcomes .entry)) .log ⌝ }
+    ensures { λ r. ⌜ r ≡ actionsIn 4096 (now (log .exit)) * ActionLength ⌝ }
     ensures { λ r. ⌜ take r (now (log .exit)) ≡ busrun (now (outcomes .entry)) ⌝ }
     ensures { λ r. ⌜ Counts r (now (log .exit)) ⌝ }
 {

@@ -1,8 +1,9 @@
 -- `busrun::attach` meets its contract. Assumes nothing.
 use borrow.Author.Needs.{needs}
-use mathlib.Core.Path.{refl, _∙_}
+use mathlib.Core.Path.{refl, ap, _∙_}
+use Prim.Native.Nat.{ℕ, _*_}
 use native.Mathlib.Omega.{arith}
-use Rattle.busrun.proofs.Logs.{written, log-long, counts}
+use Rattle.busrun.proofs.Logs.{log-left, written, log-long, counts}
 use Rattle.busrun.proofs.attach.Statement.{statement}
 use Rattle.busrun.proofs.attach.Tie as tie
 
@@ -16,8 +17,9 @@ returns c =
     let call = c .before .before .before .before .before in
     let start = call .before .before .before .before .before .before in
     let long = call .lidrumak-root-attach .kept .1 .1 .1 .0 ∙ log-long (start .pre) in
-    let is = written _ _ _ _ _ _ _ refl (start .pre) (call .lidrumak-root-attach .ensures) (c .actions .ensures .0) in
-    (is, counts _ _ (omega (arith, c .actions .ensures .1, long)))
+    let is = log-left _ _ _ _ _ _ refl (start .pre) (call .lidrumak-root-attach .ensures) in
+    let counted = c .actions .ensures .0 in
+    (is, (ap (λ (n : ℕ). n * 16) counted, (written _ _ _ is counted, counts _ _ (omega (arith, c .actions .ensures .1, long)))))
 
 pub attach-spec : {M : Type 1} → statement M
 attach-spec =
