@@ -13,7 +13,7 @@ use libc::STDOUT_FILENO;
 ghost use mathlib.Core.Path.{_≡_};
 ghost use Prim.Native.Nat.{_≤_};
 ghost use lib.ListN.{length};
-ghost use Rattle.recorded.specs.Files.{CallRead, WalkRead};
+ghost use Rattle.recorded.specs.Files.{Asks, CallRead, WalkRead};
 
 // What calls.bin holds next.
 pub enum NextCall {
@@ -37,7 +37,7 @@ fn write_garbled()
 // Reads n bytes into the buffer; did the file hold as many?
 fn is_read(fd: i32, buffer: &mut [u8], n: usize) -> bool
     requires { ⌜ n ≤ length (now buffer) ⌝ }
-    ensures { λ _. ⌜ length (now (buffer .exit)) ≡ length (now (buffer .entry)) ⌝ }
+    ensures { λ r. ⌜ Asks n (now (buffer .entry)) (now (buffer .exit)) r ⌝ }
 {
     io::read_full(fd, &mut buffer[..n]) == n
 }

@@ -6,7 +6,7 @@ use sequences::tally::tally;
 use usb_store::STORE_LEN;
 ghost use mathlib.Core.Path.{_≡_};
 ghost use Rattle.usb_store.specs.Layout.{emptyStore};
-ghost use Rattle.vectors.specs.Counts.{SameLengths};
+ghost use Rattle.vectors.specs.Counts.{SameLengths, CountsFile};
 
 fn write_number(before: &[u8], n: u32, after: &[u8])
     ensures { λ r. ⌜ r ≡ tt ⌝ }
@@ -31,6 +31,7 @@ fn replay_all(
     differ: &mut [u32],
 ) -> usize
     ensures { λ _. ⌜ SameLengths (now (seen .entry)) (now (agreed .entry)) (now (differ .entry)) (now (seen .exit)) (now (agreed .exit)) (now (differ .exit)) ⌝ }
+    ensures { λ r. ⌜ CountsFile walks (now (seen .entry)) (now (agreed .entry)) (now (differ .entry)) (now (seen .exit)) (now (agreed .exit)) (now (differ .exit)) r ⌝ }
 {
     let mut store = empty_store();
     let mut noted = 0;
@@ -54,6 +55,7 @@ fn replay_file(
     differ: &mut [u32],
 ) -> usize
     ensures { λ _. ⌜ SameLengths (now (seen .entry)) (now (agreed .entry)) (now (differ .entry)) (now (seen .exit)) (now (agreed .exit)) (now (differ .exit)) ⌝ }
+    ensures { λ r. ⌜ CountsFile walks (now (seen .entry)) (now (agreed .entry)) (now (differ .entry)) (now (seen .exit)) (now (agreed .exit)) (now (differ .exit)) r ⌝ }
 {
     let fd = os::open_read(path);
     if fd < 0 {

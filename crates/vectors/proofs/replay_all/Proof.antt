@@ -1,21 +1,24 @@
--- `vectors::replay_all` is safe and ends. Assumes nothing.
+-- `vectors::replay_all` meets its contract. Assumes nothing.
 use mathlib.Core.Path.{_≡_, refl, sym, _∙_}
-use Prim.Native.Nat.{_-_}
+use Prim.Native.Nat.{_-_, _≤_}
 use native.Mathlib.Omega.{arith}
 use lib.ListN.{length}
 use Rattle.sequences.proofs.Sequences.{empty-long}
+use Rattle.vectors.specs.Counts.{Counted, none, another}
+use Rattle.vectors.proofs.Tallies.{of-file, noted-room}
 use Rattle.vectors.proofs.replay_all.Statement.{statement}
 use Rattle.vectors.proofs.replay_all.Tie as tie
 
 abbrev Inv-loop : tie.InvT-loop
 Inv-loop walks fd seen₀ agreed₀ differ₀ store₀ noted₀ n₀ seen agreed differ store noted n =
     (length store ≡ 36864) × (length seen ≡ length seen₀) × (length agreed ≡ length agreed₀) × (length differ ≡ length differ₀)
+    × Counted walks seen₀ agreed₀ differ₀ n seen agreed differ noted × (noted ≤ length differ)
 
 abbrev μ-loop : tie.MeasureT-loop
 μ-loop walks fd seen₀ agreed₀ differ₀ store₀ noted₀ n₀ seen agreed differ store noted n = 4294967295 - n
 
 loop-holds : tie.Need-loop-holds Inv-loop μ-loop
-loop-holds c = (empty-long _ (c .empty-store .ensures), refl, refl, refl)
+loop-holds c = (empty-long _ (c .empty-store .ensures), refl, refl, refl, none, omega arith)
 
 slice-aggregate-next-record : tie.Need-slice-aggregate-next-record Inv-loop μ-loop
 slice-aggregate-next-record c = sym (c .before .before .loop .inv .0)
@@ -53,7 +56,18 @@ loop-again c =
     let inv = turn tally .before .loop .inv in
     let kept = tally .tally .kept in
     let store = tally .before .before .before .before .before .before .before .before .next-record .kept .1 .1 .0 in
-    (store ∙ inv .0, kept .0 ∙ inv .1, kept .1 .0 ∙ inv .2, kept .1 .1 .0 ∙ inv .3)
+    let read = tally .before .before .before .before .before .before .before .before in
+    let told = tally .before .before .before .before .before .next .given .1 in
+    let tallied = tally .tally .ensures .1 in
+    let start = turn tally .before .before .before .before .before .before in
+    let of = of-file (start .args .walks) (read .next-record .result) _ _ told (read .next-record .ensures) in (
+      store ∙ inv .0,
+      kept .0 ∙ inv .1,
+      kept .1 .0 ∙ inv .2,
+      kept .1 .1 .0 ∙ inv .3,
+      another _ _ (inv .4) of (tally .tally .ensures .0) tallied,
+      noted-room tallied (inv .5) (kept .1 .1 .0),
+    )
 
 same-length-4 : tie.Need-same-length-4 Inv-loop μ-loop
 same-length-4 c = c .before .loop .inv .1
@@ -67,12 +81,12 @@ same-length-6 c = c .before .loop .inv .3
 returns : tie.Need-returns Inv-loop μ-loop
 returns c =
     let inv = c .before .before .before .before .before .before .loop .inv in
-    record { of-seen = inv .1; of-agreed = inv .2; of-differ = inv .3 }
+    (record { of-seen = inv .1; of-agreed = inv .2; of-differ = inv .3 }, record { records = _; counts = inv .4; room = omega (arith, inv .5, inv .3) })
 
 returns-2 : tie.Need-returns-2 Inv-loop μ-loop
 returns-2 c =
     let inv = c .before .loop .inv in
-    record { of-seen = inv .1; of-agreed = inv .2; of-differ = inv .3 }
+    (record { of-seen = inv .1; of-agreed = inv .2; of-differ = inv .3 }, record { records = _; counts = inv .4; room = omega (arith, inv .5, inv .3) })
 
 pub replay-all-spec : {M : Type 1} → statement M
 replay-all-spec =
