@@ -1,2 +1,3 @@
 pub mod Bench
 pub mod Logs
+pub mod Whole

@@ -28,10 +28,10 @@ use Rattle.usb_model.specs.World.{World, M}
 use Rattle.usb_model.specs.Walk.{RecordLength, walk}
 use Rattle.usb_model.specs.Attach.{attachNew, usbAttachRootHub}
 use Rattle.usb_model.specs.Entry.{Lent, Verdict, accepted, refused, isUnused, noPort, rootVerdict, hubVerdict, start, leaves, answered, call, rootAttach, scan, portCheck, childReset, childCheck, retriedReset, connectionChange, configurationWalk}
-use Rattle.usb_model.specs.Kept.{Bytes, requestsIn, Above, Good, Onward, Listed, LentBytes, Accounts, WalkAccounts}
+use Rattle.usb_model.specs.Kept.{Bytes, kindsIn, Above, Good, Onward, Listed, LentBytes, Accounts, WalkAccounts}
 use Rattle.usb_model.proofs.Accepted.{port-inside, root-accepted, hub-accepted}
 use Rattle.usb_model.proofs.Keeps.{Any, Left, is-done, is-failed, is-halted}
-use Rattle.usb_model.proofs.Onward.{long, log-length, requests-logged, later-kept}
+use Rattle.usb_model.proofs.Onward.{long, log-length, later-kept, kinds-logged, requests-logged}
 use Rattle.usb_model.proofs.Walks.{Reach, reach-here}
 use Rattle.usb_model.proofs.Record.{walk-long, walk-bytes}
 use Rattle.usb_model.proofs.Functions.{child-reset, reset}
@@ -116,6 +116,7 @@ module _ (lent : Lent) (bytes : LentBytes lent) where
     actions = o .actions;
     room = long o refl (g .logged);
     later = later-kept o refl (g .logged);
+    kinds = kinds-logged o refl (g .logged);
     requests = requests-logged o refl (g .logged) refl;
   }
 
@@ -129,7 +130,7 @@ module _ (lent : Lent) (bytes : LentBytes lent) where
   called : {n : ℕ} (v : Verdict) (m : M (Unit {0}))
       → (v ≡ accepted → (length (lent .new) ≡ length (lent .old)) × Left (Reach (start lent) n) Any (m (start lent)))
       → Accounts lent (call lent v m)
-  unfolding call requestsIn
+  unfolding call kindsIn
   called accepted m h = answered-of (h refl .0) (h refl .1)
   called (refused r) m h = record {
     answer = refusal-listed r;
@@ -140,6 +141,7 @@ module _ (lent : Lent) (bytes : LentBytes lent) where
     actions = 0;
     room = omega arith;
     later = refl;
+    kinds = refl;
     requests = refl;
   }
 

@@ -23,7 +23,7 @@ use Rattle.usb_store.proofs.Writes.{length-write}
 use Rattle.usb_model.specs.Programs.{if_then_else_, Ran, done, fail, halt, on, _>>=_, _>>_, return, skip, throw, stop, look, change, succeed, caught, attempt, ignore, when, each, endOf}
 use Rattle.usb_model.specs.World.{World, M, get, getBytes, getNumber, putBytes, appended, counted, logAction, logRequest, microDelay, dwcUpdateHostFrameInterval}
 use Rattle.usb_model.specs.Transfer.{Outcome, taken, sizeOf, outcomeOf, takeOutcome}
-use Rattle.usb_model.specs.Kept.{requestsIn, Onward}
+use Rattle.usb_model.specs.Kept.{kindsIn, requestsIn, isKind, Onward}
 use Rattle.usb_model.proofs.Ways.{Logged}
 use Rattle.usb_model.proofs.Onward.{onward-same, onward-join}
 use Rattle.usb_model.proofs.Primitives.{log-onward}
@@ -53,11 +53,11 @@ abbrev full : World → Bool
 full w = ltb (length (w .log) - w .at .logged) 16
 
 -- an action is logged
-logged : (w : World) (action : List ℕ) (requests : ℕ) → length action ≡ 16 → requests ≡ w .at .requests + requestsIn 1 action
-    → full w ≡ false
+logged : (w : World) (action : List ℕ) (requests : ℕ) → length action ≡ 16 → kindsIn isKind 1 action ≡ 1
+    → requests ≡ w .at .requests + requestsIn 1 action → full w ≡ false
     → Grows w (Logged w action requests)
-logged w action requests long e room = record {
-  onward = log-onward action requests long e;
+logged w action requests long kind e room = record {
+  onward = log-onward action requests long kind e;
   fits = λ h. omega (arith, ltb-false (length (w .log) - w .at .logged) 16 room, length-write (w .log) (w .at .logged) action);
 }
 
@@ -195,26 +195,26 @@ module _ {more : List ℕ} where
       repeat w false = d w
 
   -- an action that is no request
-  logs : (action : List ℕ) → length action ≡ 16 → requestsIn 1 action ≡ 0 → Extends more (logAction action)
+  logs : (action : List ℕ) → length action ≡ 16 → kindsIn isKind 1 action ≡ 1 → requestsIn 1 action ≡ 0 → Extends more (logAction action)
   unfolding logAction _>>=_ _>>_ look when change
-  logs action long none =
-      roomy (λ r. on r (λ _. change (appended action))) (λ w. still) (λ w e. logged w action _ long (omega (arith, none)) e) (λ w. same)
+  logs action long kind none =
+      roomy (λ r. on r (λ _. change (appended action))) (λ w. still) (λ w e. logged w action _ long kind (omega (arith, none)) e) (λ w. same)
       (λ w. same)
 
   pub waits : (microseconds : ℕ) → Extends more (microDelay microseconds)
-  unfolding microDelay requestsIn
-  waits microseconds = logs (waitAction microseconds) refl refl
+  unfolding microDelay kindsIn
+  waits microseconds = logs (waitAction microseconds) refl refl refl
 
   pub frames : Extends more dwcUpdateHostFrameInterval
-  unfolding dwcUpdateHostFrameInterval requestsIn
-  frames = logs frameIntervalAction refl refl
+  unfolding dwcUpdateHostFrameInterval kindsIn
+  frames = logs frameIntervalAction refl refl refl
 
   -- a request, which is counted
   pub requests : (pipe : UsbPipeAddress) (q : UsbDeviceRequest) → Extends more (logRequest (requestAction pipe q))
-  unfolding logRequest logAction _>>=_ _>>_ look when change requestsIn
+  unfolding logRequest logAction _>>=_ _>>_ look when change kindsIn
   requests pipe q =
       let action : List ℕ = requestAction pipe q in
-      roomy (λ r. on (on r (λ _. change (appended action))) (λ _. change counted)) (λ w. still) (λ w e. logged w action _ refl refl e) (λ w. same) (λ w. same)
+      roomy (λ r. on (on r (λ _. change (appended action))) (λ _. change counted)) (λ w. still) (λ w e. logged w action _ refl refl refl e) (λ w. same) (λ w. same)
 
 -- ---- an outcome
 

@@ -20,7 +20,7 @@ use Rattle.usb_device.proofs.Free.{first-most}
 use Rattle.usb_model.specs.Programs.{Ran}
 use Rattle.usb_model.specs.World.{World, withStore, get, getBytes, getNumber, put, putBytes, putNumber, logAction, logRequest, microDelay, dwcUpdateHostFrameInterval}
 use Rattle.usb_model.specs.Transfer.{Outcome, taken, outcomesLeft, sizeOf, outcomeOf, takeOutcome, Buffer, usbControlMessage, control, read}
-use Rattle.usb_model.specs.Kept.{Bytes, requestsIn, Good, Onward}
+use Rattle.usb_model.specs.Kept.{Bytes, kindsIn, requestsIn, isKind, Good, Onward}
 use Rattle.usb_model.proofs.Bytes.{bytes-one, bytes-cons, bytes-append, zeros, bytes-le, bytes-take, bytes-drop, bytes-write, bytes-at, byte-at}
 use Rattle.usb_model.proofs.Onward.{onward-same}
 use Rattle.usb_model.proofs.Stores.{Plain, plain-low, plain-less, none-follows, plain-follows, most-follows, child-follows, store-onward, store-good, Follows}
@@ -76,9 +76,9 @@ module _ {u : World} {n : ℕ} where
 
 -- ---- the log
 
-pub log-onward : {w : World} (action : List ℕ) (requests : ℕ) → length action ≡ 16 → requests ≡ w .at .requests + requestsIn 1 action
-    → Onward w (Logged w action requests)
-log-onward {w} action requests long e = record {
+pub log-onward : {w : World} (action : List ℕ) (requests : ℕ) → length action ≡ 16 → kindsIn isKind 1 action ≡ 1
+    → requests ≡ w .at .requests + requestsIn 1 action → Onward w (Logged w action requests)
+log-onward {w} action requests long kind e = record {
   store = refl;
   free = omega arith;
   first = omega arith;
@@ -87,6 +87,7 @@ log-onward {w} action requests long e = record {
   actions = 1;
   news = action;
   news-length = long;
+  kinds = kind;
   log = refl;
   logged = refl;
   requests = e;
@@ -105,13 +106,13 @@ log-good {w} action requests b room g = record {
   child = g .child;
 }
 
-module _ {u : World} {n : ℕ} (action : List ℕ) (long : length action ≡ 16) (b : Bytes action) where
+module _ {u : World} {n : ℕ} (action : List ℕ) (long : length action ≡ 16) (kind : kindsIn isKind 1 action ≡ 1) (b : Bytes action) where
   log-left : {w : World} {r : Ran World (Unit {0})} (requests : ℕ) → requests ≡ w .at .requests + requestsIn 1 action → Reach u n w
       → Logs action w requests r
       → Left (Reach u n) Any r
   log-left requests e x full = is-halted x
   log-left {w} requests e x (logged room) =
-      is-done (reach-on x (log-onward action requests long e) (log-good {w = w} action requests b (omega (arith, room, x .good .logged)) (x .good))) tt
+      is-done (reach-on x (log-onward action requests long kind e) (log-good {w = w} action requests b (omega (arith, room, x .good .logged)) (x .good))) tt
 
   -- an action that is no request
   pub logs : requestsIn 1 action ≡ 0 → Goes u n (logAction action)
@@ -129,12 +130,12 @@ frame-bytes = bytes-cons (omega arith) (zeros 15)
 
 module _ {u : World} {n : ℕ} where
   pub waits : (microseconds : ℕ) → Goes u n (microDelay microseconds)
-  unfolding microDelay requestsIn
-  waits microseconds = logs (waitAction microseconds) (wait-length microseconds) (wait-bytes microseconds) refl
+  unfolding microDelay kindsIn
+  waits microseconds = logs (waitAction microseconds) (wait-length microseconds) refl (wait-bytes microseconds) refl
 
   pub frames : Goes u n dwcUpdateHostFrameInterval
-  unfolding dwcUpdateHostFrameInterval requestsIn
-  frames = logs frameIntervalAction frame-length frame-bytes refl
+  unfolding dwcUpdateHostFrameInterval kindsIn
+  frames = logs frameIntervalAction frame-length refl frame-bytes refl
 
 -- ---- a control message
 
@@ -180,6 +181,7 @@ took-onward {w} k =
       actions = o .actions;
       news = o .news;
       news-length = o .news-length;
+      kinds = o .kinds;
       log = o .log;
       logged = o .logged;
       requests = o .requests;
@@ -223,12 +225,12 @@ delivers p b vs (plain r) c = puts-bytes p (b .field) (b .room) _ r (omega (arit
 
 module _ {u : World} {n : ℕ} (p : ℕ) (q : UsbDeviceRequest) (b : Buffer) (c : Byte-codes q) (fits : Fits b) where
   pub messages : (address : ℕ) → address < 256 → Walks u n (usbControlMessage p address q b) Bytes
-  unfolding usbControlMessage requestsIn
+  unfolding usbControlMessage kindsIn
   messages address h =
       bind (gets p _) λ speed s.
       bind (gets p _) λ size _.
       let pipe : UsbPipeAddress = record { device = address; speed = speed; «max_size» = packetSize size } in
-      next (sends (requestAction pipe q) (request-length pipe q) (request-bytes pipe q h s (packet-low size) c) refl) (
+      next (sends (requestAction pipe q) (request-length pipe q) refl (request-bytes pipe q h s (packet-low size) c) refl) (
       bind (takes _) λ o d.
       next (puts-number p Error 4 _ (plain-low (omega arith) (omega arith))) (
       next (delivers p b (o .delivered) fits d) (

@@ -40,6 +40,7 @@ store-onward {w} t f =
       actions = o .actions;
       news = o .news;
       news-length = o .news-length;
+      kinds = o .kinds;
       log = o .log;
       logged = o .logged;
       requests = o .requests;

@@ -1,11 +1,11 @@
 -- What holds of every world that a call passes through, between an earlier and a later one, and of what a call leaves. proofs/ has
 -- it for every function and every entry point.
 use mathlib.Core.Path.{_≡_}
-use mathlib.Core.Bool.{cond}
+use mathlib.Core.Bool.{Bool, cond, _&&_}
 use mathlib.Core.Logic.{_≢_}
 use mathlib.Core.List.{List}
 use Prim.Native.Nat.{ℕ, zero, suc, _+_, _*_, _≤_, _<_}
-use lib.Dec.{eqb}
+use lib.Dec.{eqb, ltb}
 use lib.IntN.{ℤ}
 use lib.ListN.{length, getD, drop}
 use Rattle.usb_types.specs.Actions.{ActionLength}
@@ -19,10 +19,17 @@ use Rattle.usb_model.specs.Entry.{Lent, Left, WalkLeft}
 pub record Bytes (l : List ℕ) : Type 0 where
   pub below : (i : ℕ) → getD l i 0 < 256
 
--- how many of the first n actions of a log are requests
-unfoldable pub requestsIn : ℕ → List ℕ → ℕ
-requestsIn zero log = 0
-requestsIn (suc n) log = cond (eqb (getD log 0 0) 1) 1 0 + requestsIn n (drop ActionLength log)
+-- how many of the first n actions of a log have a kind that passes a test
+unfoldable pub kindsIn : (ℕ → Bool) → ℕ → List ℕ → ℕ
+kindsIn test zero log = 0
+kindsIn test (suc n) log = cond (test (getD log 0 0)) 1 0 + kindsIn test n (drop ActionLength log)
+
+-- "kind (1 request, 2 wait, 3 `DwcUpdateHostFrameInterval`)"
+abbrev pub requestsIn : ℕ → List ℕ → ℕ
+requestsIn n log = kindsIn (λ kind. eqb kind 1) n log
+
+abbrev pub isKind : ℕ → Bool
+isKind kind = ltb 0 kind && ltb kind 4
 
 -- a child at port q of place h: it stands above its hub, and all places up to it are used
 pub record Above (s : List ℕ) (h q : ℕ) : Type 0 where
@@ -53,6 +60,7 @@ pub record Onward (w v : World) : Type 0 where
   pub actions : ℕ
   pub news : List ℕ
   pub news-length : length news ≡ ActionLength * actions
+  pub kinds : kindsIn isKind actions news ≡ actions
   pub log : v .log ≡ write (w .log) (w .at .logged) news
   pub logged : v .at .logged ≡ w .at .logged + ActionLength * actions
   -- the requests counted are the actions of kind 1
@@ -72,7 +80,7 @@ pub record LentBytes (lent : Lent) : Type 0 where
   pub log : Bytes (lent .log)
 
 -- of a call, refused or not: an answer of the table; bytes of the same lengths; whole actions from the start of the log on, and the
--- bytes after them as they were; and as many requests reported as there are actions of kind 1 among them
+-- bytes after them as they were; each of one of the three kinds, and as many requests reported as there are actions of kind 1 among them
 pub record Accounts (lent : Lent) (left : Left) : Type 0 where
   pub answer : Listed (left .answer)
   pub new-length : length (left .new) ≡ length (lent .new)
@@ -82,6 +90,7 @@ pub record Accounts (lent : Lent) (left : Left) : Type 0 where
   pub actions : ℕ
   pub room : ActionLength * actions ≤ length (left .log)
   pub later : drop (ActionLength * actions) (left .log) ≡ drop (ActionLength * actions) (lent .log)
+  pub kinds : kindsIn isKind actions (left .log) ≡ actions
   pub requests : left .requests ≡ requestsIn actions (left .log)
 
 -- of a walk alone
