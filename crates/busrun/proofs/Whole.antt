@@ -1,18 +1,17 @@
 -- What busrun finds by the kinds of the actions are all bytes that the call logged. Assumes nothing.
 use mathlib.Core.Path.{_≡_, refl, sym, ap, _∙_}
-use mathlib.Core.Bool.{Bool, true, false, cond, _&&_, false≢true}
+use mathlib.Core.Bool.{Bool, true, false, cond, false≢true}
 use mathlib.Core.List.{List}
-use Prim.Native.Nat.{ℕ, zero, suc, _+_, _*_, _≤_, _<_}
+use Prim.Native.Nat.{ℕ, zero, suc, _+_, _*_, _≤_}
 use native.Mathlib.Nat.{add-zero}
 use native.Mathlib.Omega.{arith}
-use borrow.Author.Tests.{ltb-true, eq-eqb, ne-eqb}
-use lib.Dec.{ltb}
+use borrow.Author.Tests.{eq-eqb, ne-eqb}
 use lib.ListN.{length, getD, take, drop, replicate, length-replicate}
-use lib.Seq.{getD-drop, drop-drop}
+use lib.Seq.{getD-drop}
 use Rattle.usb_store.specs.Layout.{StoreLength}
 use Rattle.usb_place.proofs.Tests.{replicate-zero}
 use Rattle.usb_model.specs.Programs.{endOf}
-use Rattle.usb_model.specs.Entry.{Lent, accepted, start, call, rootAttach}
+use Rattle.usb_model.specs.Entry.{accepted, start, call, rootAttach}
 use Rattle.usb_model.specs.Kept.{Bytes, LentBytes, kindsIn, isKind}
 use Rattle.usb_model.specs.Demand3.{attaches, verdict, program}
 use Rattle.usb_model.proofs.Bytes.{zeros}

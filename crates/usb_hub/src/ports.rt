@@ -3,11 +3,13 @@ use usb_device::device::FULL;
 use usb_device::device::HIGH;
 use usb_device::device::LOW;
 use usb_device::hub::HubDevice;
+use usb_device::hub::load_hub;
 ghost use mathlib.Core.Path.{_≡_};
 ghost use Prim.Native.Nat.{_/_, _%_, _<_};
 ghost use lib.Dec.{eqb};
-ghost use lib.ListN.{getD};
-ghost use Rattle.usb_store.specs.Layout.{Ports};
+ghost use lib.ListN.{length, getD};
+ghost use Rattle.usb_store.specs.Layout.{Places, StoreLength, PortStatus, Child, Ports};
+ghost use Rattle.usb_store.specs.Access.{byteAt, numberAt};
 ghost use Rattle.usb_model.specs.Hub.{speedOf};
 
 // Bits of wPortStatus, USB 2.0 table 11-21.
@@ -66,4 +68,20 @@ pub fn child_of(hub: HubDevice, port: usize) -> u8
 {
     let children = hub.children;
     children[port]
+}
+
+// The stored status of a port of the hub at a place.
+pub fn port_status(store: &[u8], hub: usize, port: usize) -> u32
+    requires { ⌜ (length (now store) ≡ StoreLength) × (hub < Places) × (port < Ports) ⌝ }
+    ensures { λ r. ⌜ r ≡ numberAt (now (store .entry)) hub (PortStatus port) 4 ⌝ }
+{
+    status_of(load_hub(store, hub), port)
+}
+
+// Its child.
+pub fn port_child(store: &[u8], hub: usize, port: usize) -> u8
+    requires { ⌜ (length (now store) ≡ StoreLength) × (hub < Places) × (port < Ports) ⌝ }
+    ensures { λ r. ⌜ r ≡ byteAt (now (store .entry)) hub (Child port) ⌝ }
+{
+    child_of(load_hub(store, hub), port)
 }

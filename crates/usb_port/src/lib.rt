@@ -1,7 +1,6 @@
 // device/hub.rs: HubPortReset2.
-use usb_device::hub::load_hub;
 use usb_hub::ports::has;
-use usb_hub::ports::status_of;
+use usb_hub::ports::port_status;
 use usb_hub::requests::C_PORT_RESET;
 use usb_hub::requests::PORT_RESET;
 use usb_hub::requests::hub_change_port_feature;
@@ -12,11 +11,8 @@ use usb_transfer::log::Step;
 use usb_transfer::log::micro_delay;
 use usb_types::types::Answer;
 use usb_types::types::ErrorCode;
-ghost use mathlib.Core.Path.{_≡_};
 ghost use Prim.Native.Nat.{_<_};
-ghost use lib.ListN.{length};
-ghost use Rattle.usb_store.specs.Layout.{Places, StoreLength, PortStatus, Ports};
-ghost use Rattle.usb_store.specs.Access.{numberAt};
+ghost use Rattle.usb_store.specs.Layout.{Places, Ports};
 ghost use Rattle.usb_model.specs.Hub as Model;
 ghost use Rattle.usb_transfer.specs.Runs.{Ready, Does};
 ghost use Rattle.usb_port.specs.Parts.{Sees, delayedStatus, resetPort};
@@ -25,13 +21,6 @@ ghost use Rattle.usb_port.specs.Parts.{Sees, delayedStatus, resetPort};
 pub struct Awaited {
     pub step: Step,
     pub seen: bool,
-}
-
-pub fn port_status(store: &[u8], hub: usize, port: usize) -> u32
-    requires { ⌜ (length (now store) ≡ StoreLength) × (hub < Places) × (port < Ports) ⌝ }
-    ensures { λ r. ⌜ r ≡ numberAt (now (store .entry)) hub (PortStatus port) 4 ⌝ }
-{
-    status_of(load_hub(store, hub), port)
 }
 
 // A wait, and a read of the port's status.

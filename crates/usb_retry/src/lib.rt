@@ -1,5 +1,6 @@
 // device/hub.rs, HubPortReset.
 use usb_hub::ports::has;
+use usb_hub::ports::port_status;
 use usb_hub::requests::C_PORT_RESET;
 use usb_hub::requests::PORT_RESET;
 use usb_hub::requests::hub_change_port_feature;
@@ -7,7 +8,6 @@ use usb_hub::requests::ignore;
 use usb_model::Progress;
 use usb_port::Awaited;
 use usb_port::delayed_status;
-use usb_port::port_status;
 use usb_transfer::log::Step;
 use usb_types::types::Answer;
 use usb_types::types::ErrorCode;

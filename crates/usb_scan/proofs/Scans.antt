@@ -1,18 +1,13 @@
 -- The ways through a scan, over plain values. Assumes nothing.
 use mathlib.Core.Path.{_≡_, refl, _∙_}
-use mathlib.Core.List.{List}
 use Prim.Native.Nat.{ℕ, zero, suc, _+_, _-_, _≤_, _<_}
 use native.Mathlib.Omega.{arith}
 use borrow.Author.Tests.{eq-eqb, ne-eqb}
-use lib.ListN.{getD}
 use Rattle.usb_types.specs.declared.types.Answer.{Answer}
 use Rattle.usb_types.specs.declared.types.Answer.the-variants.{Ok, Error, Stop}
 use Rattle.usb_store.specs.Layout.{Places, Hub, Child, MaxChildren}
 use Rattle.usb_store.specs.Access.{byteAt}
-use Rattle.usb_device.specs.declared.hub.HubDevice.{HubDevice}
 use Rattle.usb_device.specs.Device.{firstUnused, freePlaces}
-use Rattle.usb_device.specs.Ports.{hubAt}
-use Rattle.usb_device.proofs.HubRecord.{child-at}
 use Rattle.usb_device.proofs.Free.{first-most}
 use Rattle.usb_model.specs.Programs.{_>>=_, each}
 use Rattle.usb_model.specs.World.{World, M, get}
@@ -48,11 +43,6 @@ module _ (attach below : ℕ → M (Unit {0})) (hub port : ℕ) {w v : World} wh
         → Ends (below (child - 1)) v a tt u → Ends (scanPort attach below hub port) w a tt u
     unfolding scanPort NotStop
     goes-below n z d = bound _ (attempted r tt) (got-as _ _ _ e (got _ _ _ (done-if (simp (ne-eqb child 0 n, ne-eqb _ 0 z)) d)))
-
--- a child's number, read by way of the hub's record
-pub child-read : (s : List ℕ) (hub port : ℕ) {h : HubDevice} {child : ℕ}
-    → port < 10 → h ≡ hubAt s hub → child ≡ getD (h .children) port 0 → child ≡ byteAt s hub (Child port)
-child-read s hub port l e r = r ∙ rw e (child-at s hub port l)
 
 -- a child stands above its hub, at a used place
 pub child-bus : (hub port child : ℕ) {v : World}

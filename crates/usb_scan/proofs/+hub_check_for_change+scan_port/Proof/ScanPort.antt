@@ -11,18 +11,17 @@ use Rattle.usb_store.specs.Layout.{Child}
 use Rattle.usb_store.specs.Access.{byteAt}
 use Rattle.usb_store.proofs.byte_at.Reads as byte-at
 use Rattle.usb_device.specs.Device.{freePlaces}
-use Rattle.usb_device.proofs.hub.load_hub.Reads as load-hub
 use Rattle.usb_model.specs.World.{World}
 use Rattle.usb_model.specs.Hub.{hubCheckConnection}
 use Rattle.usb_model.specs.Attach.{attachBelow}
 use Rattle.usb_transfer.specs.Runs.{here, Ends}
 use Rattle.usb_transfer.proofs.Steps.{as-ok, not-ok}
-use Rattle.usb_hub.proofs.ports.child_of.Reads as child-of
+use Rattle.usb_hub.proofs.ports.port_child.Reads as port-child
 use Rattle.usb_hub.proofs.requests.ignore.Reads as ignore
 use Rattle.usb_driver.specs.Bus.{Bus}
 use Rattle.usb_driver.proofs.Reaches.{After, checked-after}
 use Rattle.usb_driver.proofs.hub.hub_check_connection.Reads as hub-check-connection
-use Rattle.usb_scan.proofs.Scans.{child-read, child-bus, passes-failed, passes-none, passes-no-hub, goes-below}
+use Rattle.usb_scan.proofs.Scans.{child-bus, passes-failed, passes-none, passes-no-hub, goes-below}
 use Rattle.usb_scan.proofs.hub_check_for_change.Reads as hub-check-for-change
 use Rattle.usb_scan.proofs.scan_port.Reads.{Post}
 use Rattle.usb_scan.proofs.+hub_check_for_change+scan_port.Lts-scan_port as lts
@@ -35,10 +34,8 @@ module _ (t : ℕ) where
     hub-check-connection.Learnt,
     ignore.Asked,
     ignore.Learnt,
-    load-hub.Asked,
-    load-hub.Learnt,
-    child-of.Asked,
-    child-of.Learnt,
+    port-child.Asked,
+    port-child.Learnt,
     wide.Asked,
     wide.Learnt,
     byte-at.Asked,
@@ -53,10 +50,10 @@ module _ (t : ℕ) where
   entry c = c .before .before .before .before .before .before
 
   abbrev checked : lts.After-wide calls (Pre t) Post → lts.After-hub-check-connection calls (Pre t) Post
-  checked c = c .before .before .before .before .before .before .before .before .before .before
+  checked c = c .before .before .before .before .before .before .before .before .before
 
   abbrev told : lts.After-wide calls (Pre t) Post → lts.After-enum-told calls (Pre t) Post
-  told c = c .before .before .before .before
+  told c = c .before .before .before
 
   -- ---- the bus there
 
@@ -79,9 +76,7 @@ module _ (t : ℕ) where
 
   child : (c : lts.After-wide calls (Pre t) Post)
       → c .wide .result ≡ byteAt (at-checked (checked c) .store) (entry (checked c) .args .hub) (Child (entry (checked c) .args .port))
-  child c =
-      let low = entry (checked c) .pre .1 .1 in
-      child-read _ _ _ low (c .before .before .load-hub .ensures) (c .wide .ensures .0 ∙ c .before .child-of .ensures)
+  child c = c .wide .ensures .0 ∙ c .before .port-child .ensures
 
   -- the child stands above its hub
   above : (c : lts.Else1 calls (Pre t) Post)
@@ -134,7 +129,7 @@ module _ (t : ℕ) where
       lts.spec calls (Pre t) Post
       (λ c κs. c .before .before .before .before .before .pre .1)
       (λ c. search needs) (λ c κs. search needs) (λ c. search needs) (λ c. search needs) returns
-      (λ c κs. search needs) (λ c κs. search needs) (λ c κs. search needs)
+      (λ c κs. search needs) (λ c κs. search needs)
       (λ c κs. search needs) (λ c. search needs) (λ c. search needs) returns-2
       (λ c. search needs) byte-at-requires
       (λ c κs. search needs) (λ c. search needs) (λ c. search needs) returns-3

@@ -1,9 +1,9 @@
--- `usb_port::port_status` meets its contract. Assumes nothing.
+-- `usb_hub::ports::port_status` meets its contract. Assumes nothing.
 use borrow.Author.Needs.{needs}
 use mathlib.Core.Path.{_∙_}
 use Rattle.usb_device.proofs.HubRecord.{status-at}
-use Rattle.usb_port.proofs.port_status.Statement.{statement}
-use Rattle.usb_port.proofs.port_status.Tie as tie
+use Rattle.usb_hub.proofs.ports.port_status.Statement.{statement}
+use Rattle.usb_hub.proofs.ports.port_status.Tie as tie
 
 returns : tie.Need-returns
 returns c =
