@@ -9,6 +9,7 @@ use usb_model::Progress;
 use usb_store::MAX_CHILDREN;
 use usb_store::byte_at;
 use usb_transfer::log::Step;
+use usb_transfer::log::ok;
 use usb_types::types::Answer;
 use usb_types::types::wide;
 ghost use Prim.Native.Nat.{ℕ, _≤_, _<_};
@@ -47,14 +48,7 @@ pub fn hub_attach(
         progress = step.at;
         port += 1;
     }
-    Step {
-        answer: Answer::Ok,
-        at: Progress {
-            logged: progress.logged,
-            taken: progress.taken,
-            requests: progress.requests,
-        },
-    }
+    ok(progress)
 }
 
 pub fn hub_check_connection(
@@ -109,14 +103,7 @@ fn change_if(
     if due {
         return ignore(hub_port_connection_changed(store, log, outcomes, at, hub, port));
     }
-    Step {
-        answer: Answer::Ok,
-        at: Progress {
-            logged: at.logged,
-            taken: at.taken,
-            requests: at.requests,
-        },
-    }
+    ok(at)
 }
 
 pub fn hub_port_connection_changed(

@@ -10,6 +10,7 @@ use usb_store::POWER_GOOD_DELAY;
 use usb_store::byte_at;
 use usb_transfer::log::Step;
 use usb_transfer::log::micro_delay;
+use usb_transfer::log::ok;
 use usb_types::request::CLEAR_FEATURE;
 use usb_types::request::GET_STATUS;
 use usb_types::request::HUB;
@@ -55,14 +56,7 @@ pub fn ignore(step: Step) -> Step
         return step;
     }
     let at = step.at;
-    Step {
-        answer: Answer::Ok,
-        at: Progress {
-            logged: at.logged,
-            taken: at.taken,
-            requests: at.requests,
-        },
-    }
+    ok(at)
 }
 
 pub fn hub_get_status(
@@ -158,14 +152,7 @@ fn power_ports(
         next = step.at;
         port += 1;
     }
-    Step {
-        answer: Answer::Ok,
-        at: Progress {
-            logged: next.logged,
-            taken: next.taken,
-            requests: next.requests,
-        },
-    }
+    ok(next)
 }
 
 // bPwrOn2PwrGood counts 2 ms; where it is 0, 100 ms are waited.
@@ -189,14 +176,7 @@ pub fn hub_power_on(
     ensures { λ r. ⌜ Does (Model.hubPowerOn hub) store log outcomes at r ⌝ }
 {
     if byte_at(store, hub, usb_store::HUB) != WITH_DESCRIPTOR {
-        return Step {
-            answer: Answer::Ok,
-            at: Progress {
-                logged: at.logged,
-                taken: at.taken,
-                requests: at.requests,
-            },
-        };
+        return ok(at);
     }
     let count = wide(byte_at(store, hub, MAX_CHILDREN));
     let delay = power_delay(byte_at(store, hub, POWER_GOOD_DELAY));

@@ -16,6 +16,9 @@ use Rattle.usb_transfer.specs.declared.log.Step.{Step}
 abbrev pub here : List ℕ → List ℕ → List ℕ → Progress → World
 here s l o p = record { store = s; log = l; outcomes = o; at = p }
 
+abbrev pub endedWell : Progress → Step
+endedWell at = record { answer = Ok; at = at }
+
 -- what every function may rely on, and keeps
 pub record Fit (w : World) : Type 0 where
   pub whole : length (w .store) ≡ StoreLength

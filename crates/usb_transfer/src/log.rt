@@ -6,13 +6,28 @@ use usb_types::pipe::frame_interval_action;
 use usb_types::pipe::wait_action;
 use usb_types::types::Answer;
 use usb_types::types::Halt;
+ghost use mathlib.Core.Path.{_≡_};
 ghost use Rattle.usb_model.specs.World.{logAction, logRequest, microDelay, dwcUpdateHostFrameInterval};
-ghost use Rattle.usb_transfer.specs.Runs.{Room, Logs};
+ghost use Rattle.usb_transfer.specs.Runs.{endedWell, Room, Logs};
 
 // What a function of the driver answers, and how far the call has come.
 pub struct Step {
     pub answer: Answer,
     pub at: Progress,
+}
+
+// A step that ended well. Its progress is written field by field: copied whole, it moves in other pieces than it was stored in.
+pub fn ok(at: Progress) -> Step
+    ensures { λ r. ⌜ r ≡ endedWell at ⌝ }
+{
+    Step {
+        answer: Answer::Ok,
+        at: Progress {
+            logged: at.logged,
+            taken: at.taken,
+            requests: at.requests,
+        },
+    }
 }
 
 fn log_action(log: &mut [u8], at: Progress, action: [u8; ACTION_LEN]) -> Step

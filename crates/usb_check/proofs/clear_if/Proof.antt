@@ -13,9 +13,9 @@ returns c =
 
 returns-2 : tie.Need-returns-2
 unfolding clearIf
-returns-2 c = done-unless _ (c .if1 .left) (c .before .before .before .before .pre .0)
+returns-2 c = rw (c .ok .ensures) (done-unless _ (c .before .if1 .left) (c .before .before .before .before .before .pre .0))
 
 pub clear-if-spec : {M : Type 1} → statement M
 clear-if-spec =
     tie.close
-    (tie.spec (λ c κs. search needs) (λ c. search needs) (λ c. search needs) returns returns-2)
+    (tie.spec (λ c κs. search needs) (λ c. search needs) (λ c. search needs) returns (λ c κs. search needs) returns-2)

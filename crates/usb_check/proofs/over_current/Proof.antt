@@ -39,7 +39,9 @@ returns-2 c =
 
 returns-3 : tie.Need-returns-3
 unfolding overCurrent bit
-returns-3 c = done-unless _ (sym (c .before .has .ensures) ∙ c .if1 .left) (c .before .before .before .before .before .pre .0)
+returns-3 c =
+    let test = c .before in
+    rw (c .ok .ensures) (done-unless _ (sym (test .before .has .ensures) ∙ test .if1 .left) (test .before .before .before .before .before .pre .0))
 
 pub over-current-spec : {M : Type 1} → statement M
 over-current-spec =
@@ -57,4 +59,5 @@ over-current-spec =
     (λ c. search needs)
     (λ c. search needs)
     returns-2
+    (λ c κs. search needs)
     returns-3)

@@ -3,6 +3,7 @@ use Prim.Native.Nat.{ℕ}
 use borrow.Author.Needs.{needs}
 use native.Mathlib.Omega.{arith}
 use Rattle.usb_transfer.proofs.Steps.{done-if, done-unless}
+use Rattle.usb_transfer.proofs.log.ok.Reads as ok
 use Rattle.usb_hub.proofs.Parts.{ignores}
 use Rattle.usb_hub.proofs.requests.ignore.Reads as ignore
 use Rattle.usb_driver.proofs.hub.hub_port_connection_changed.Reads as hub-port-connection-changed
@@ -13,7 +14,7 @@ use cycle.Proof.Measures.{change-if-at as Pre, hub-port-connection-changed-below
 
 module _ (t : ℕ) where
   abbrev calls : lts.Claims
-  calls = (hub-port-connection-changed-below t, hub-port-connection-changed.Post, ignore.Asked, ignore.Learnt)
+  calls = (hub-port-connection-changed-below t, hub-port-connection-changed.Post, ignore.Asked, ignore.Learnt, ok.Asked, ok.Learnt)
 
   hub-port-connection-changed-requires : lts.Need-hub-port-connection-changed-requires calls (Pre t) Post
   hub-port-connection-changed-requires c κs =
@@ -26,10 +27,10 @@ module _ (t : ℕ) where
       done-if (c .before .before .before .before .before .before .before .before .if1 .taken) (rw (c .ignore .ensures) (ignores change))
 
   returns-2 : lts.Need-returns-2 calls (Pre t) Post
-  returns-2 c n h = done-unless _ (c .if1 .left) (c .before .before .before .before .pre .1 .0 .fit)
+  returns-2 c n h = rw (c .ok .ensures) (done-unless _ (c .before .if1 .left) (c .before .before .before .before .before .pre .1 .0 .fit))
 
   pub met : {M : Type 1} → lts.Closed calls (Pre t) Post M
   met =
       lts.spec calls (Pre t) Post
       hub-port-connection-changed-requires (λ c κs. search needs) (λ c. search needs) (λ c. search needs) returns
-      returns-2
+      (λ c κs. search needs) returns-2

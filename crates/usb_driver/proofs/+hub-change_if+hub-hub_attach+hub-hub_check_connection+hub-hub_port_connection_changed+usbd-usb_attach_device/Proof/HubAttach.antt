@@ -17,6 +17,7 @@ use Rattle.usb_model.specs.Attach.{attachBelow}
 use Rattle.usb_transfer.specs.declared.log.Step.{Step}
 use Rattle.usb_transfer.specs.Runs.{here, Ends}
 use Rattle.usb_transfer.proofs.Steps.{as-ok, not-ok, next, next-ended, got-as, going, ends-with, each-starts, each-last, each-ended, each-goes}
+use Rattle.usb_transfer.proofs.log.ok.Reads as ok
 use Rattle.usb_hub.proofs.Parts.{ignores}
 use Rattle.usb_hub.proofs.requests.ignore.Reads as ignore
 use Rattle.usb_hub_attach.proofs.ready_hub.Reads as ready-hub
@@ -31,7 +32,7 @@ use cycle.Proof.Measures.{hub-attach-at as Pre, hub-check-connection-below as ch
 
 module _ (t : ℕ) where
   abbrev calls : lts.Claims
-  calls = (ready-hub.Asked, ready-hub.Learnt, byte-at.Asked, byte-at.Learnt, wide.Asked, wide.Learnt, check-below t, check.Post, ignore.Asked, ignore.Learnt)
+  calls = (ready-hub.Asked, ready-hub.Learnt, byte-at.Asked, byte-at.Learnt, wide.Asked, wide.Learnt, check-below t, check.Post, ignore.Asked, ignore.Learnt, ok.Asked, ok.Learnt)
 
   abbrev Inv-loop : lts.InvT-loop
   Inv-loop store₀ log₀ outcomes hub progress₀ count port₀ store log progress port =
@@ -124,17 +125,19 @@ module _ (t : ℕ) where
       let check = call .hub-check-connection in
       let inv = turn call .before .loop .inv in
       let ignored = c .before .before .before .ignore .ensures in
-      let ok = ap (λ (step : Step). step .answer) (sym ignored) ∙ c .before .enum-told2 .given .1 in
+      let answered = ap (λ (step : Step). step .answer) (sym ignored) ∙ c .before .enum-told2 .given .1 in
       let k = checked-after _ (inv .after .bus) (low (turn call)) (check .ensures _ (le-refl _)) in
       record {
         after = rw ignored (record { bus = k .bus; free = omega (arith, k .free, inv .after .free) });
         goes = λ n h.
             each-goes _ _ _ (turn call .loop-test .taken) (inv .goes n h)
-            (rw ignored (rw ok at (ignores (check .ensures n (omega (arith, inv .after .free)))))) (check .kept .0) (check .kept .1 .0);
+            (rw ignored (rw answered at (ignores (check .ensures n (omega (arith, inv .after .free)))))) (check .kept .0) (check .kept .1 .0);
       }
 
   returns-3 : lts.Need-returns-3 calls (Pre t) Post Inv-loop μ-loop
-  returns-3 c n h = ended (c .before) n h (each-last _ _ _ (c .loop-test .left) (c .before .loop .inv .after .bus .fit))
+  returns-3 c n h =
+      let at = c .before .before in
+      rw (c .ok .ensures) (ended at n h (each-last _ _ _ (c .before .loop-test .left) (at .loop .inv .after .bus .fit)))
 
   pub met : {M : Type 1} → lts.Closed calls (Pre t) Post M
   met =
@@ -146,4 +149,4 @@ module _ (t : ℕ) where
       (λ c. let call = c .before .before .before .before .before .before in call .hub-check-connection .kept .1 .0 ∙ same-log (turn call .before))
       returns-2
       (λ c. search needs) (λ c. search needs) loop-again
-      (λ c. same-store (c .before)) (λ c. same-log (c .before)) returns-3
+      (λ c κs. search needs) (λ c. same-store (c .before .before)) (λ c. same-log (c .before .before)) returns-3

@@ -11,7 +11,9 @@ use Rattle.usb_hub.proofs.requests.hub_power_on.Tie as tie
 returns : tie.Need-returns
 unfolding hubPowerOn
 returns c =
-    got _ _ _ (done-unless _ (ne-eqb _ _ (rw (c .before .byte-at .ensures) at (c .if1 .taken))) (c .before .before .before .before .before .before .pre .0))
+    let test = c .before in
+    let none = ne-eqb _ _ (rw (test .before .byte-at .ensures) at (test .if1 .taken)) in
+    rw (c .ok .ensures) (got _ _ _ (done-unless _ none (test .before .before .before .before .before .before .pre .0)))
 
 returns-2 : tie.Need-returns-2
 unfolding hubPowerOn powerPorts
@@ -41,6 +43,7 @@ pub hub-power-on-spec : {M : Type 1} → statement M
 hub-power-on-spec =
     tie.close
     (tie.spec
+    (λ c κs. search needs)
     (λ c κs. search needs)
     (λ c. search needs)
     returns

@@ -10,7 +10,8 @@ returns c = ignored-stop _ _ (c .enum-told .given .1)
 
 returns-2 : tie.Need-returns-2
 returns-2 c =
-    ignored-rest (c .before .before .args .step) (not-stop (c .before .before .args .step .answer) (c .before .match .keys2))
+    let step = c .before .before .before .args .step in
+    rw (c .ok .ensures) (ignored-rest step (not-stop (step .answer) (c .before .before .match .keys2)))
 
 pub ignore-spec : {M : Type 1} → statement M
-ignore-spec = tie.close (tie.spec (λ c. search needs) returns returns-2)
+ignore-spec = tie.close (tie.spec (λ c. search needs) returns (λ c κs. search needs) returns-2)

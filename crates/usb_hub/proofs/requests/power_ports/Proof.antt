@@ -43,7 +43,9 @@ loop-again c =
     each-goes _ _ _ (turn .loop-test .taken) (turn .before .loop .inv) (as-ok (c .before .enum-told .given .1) set) (kept .0) (kept .1 .0)
 
 returns-2 : tie.Need-returns-2 Inv-loop μ-loop
-returns-2 c = ends-with (c .before .loop .inv) (each-last _ _ _ (c .loop-test .left) (c .before .loop .inv .fit))
+returns-2 c =
+    let at-loop = c .before .before in
+    rw (c .ok .ensures) (ends-with (at-loop .loop .inv) (each-last _ _ _ (c .before .loop-test .left) (at-loop .loop .inv .fit)))
 
 pub power-ports-spec : {M : Type 1} → statement M
 power-ports-spec =
@@ -61,6 +63,7 @@ power-ports-spec =
     (λ c. search needs)
     (λ c. search needs)
     loop-again
+    (λ c κs. search needs)
     (λ c. search needs)
     (λ c. search needs)
     returns-2)

@@ -17,6 +17,7 @@ use Rattle.usb_model.specs.Hub.{hubCheckForChange}
 use Rattle.usb_model.specs.Attach.{attachBelow}
 use Rattle.usb_transfer.specs.Runs.{here, Ends}
 use Rattle.usb_transfer.proofs.Steps.{as-ok, not-ok, got-as, going, ends-with, each-starts, each-last, each-ended, each-goes}
+use Rattle.usb_transfer.proofs.log.ok.Reads as ok
 use Rattle.usb_scan.proofs.Scans.{Scanned, scansAll, at-places, scanned-after}
 use Rattle.usb_scan.proofs.scan_port.Reads as scan-port
 use Rattle.usb_scan.proofs.hub_check_for_change.Reads.{Post}
@@ -25,7 +26,7 @@ use Rattle.usb_scan.proofs.+hub_check_for_change+scan_port.Proof.Measur
 
 module _ (t : ℕ) where
   abbrev calls : lts.Claims
-  calls = (byte-at.Asked, byte-at.Learnt, wide.Asked, wide.Learnt, scan-port-below t, scan-port.Post)
+  calls = (byte-at.Asked, byte-at.Learnt, wide.Asked, wide.Learnt, scan-port-below t, scan-port.Post, ok.Asked, ok.Learnt)
 
   abbrev Inv-loop : lts.InvT-loop
   Inv-loop store₀ log₀ outcomes hub count progress₀ port₀ store log progress port =
@@ -105,8 +106,8 @@ module _ (t : ℕ) where
 
   returns-2 : lts.Need-returns-2 calls (Pre t) Post Inv-loop μ-loop
   returns-2 c n m h l =
-      let at = c .before in
-      ended at n m h l (λ k g. each-last _ _ _ (c .loop-test .left) (at .loop .inv .after .bus .fit))
+      let at = c .before .before in
+      rw (c .ok .ensures) (ended at n m h l (λ k g. each-last _ _ _ (c .before .loop-test .left) (at .loop .inv .after .bus .fit)))
 
   pub met : {M : Type 1} → lts.Closed calls (Pre t) Post M
   met =
@@ -117,4 +118,4 @@ module _ (t : ℕ) where
       (λ c. let call = c .before .before .before .before .before in call .scan-port .kept .1 .0 ∙ same-log (turn call .before))
       returns
       (λ c. search needs) (λ c. search needs) loop-again
-      (λ c. same-store (c .before)) (λ c. same-log (c .before)) returns-2
+      (λ c κs. search needs) (λ c. same-store (c .before .before)) (λ c. same-log (c .before .before)) returns-2
