@@ -78,7 +78,7 @@ pub fn port_status(store: &[u8], hub: usize, port: usize) -> u32
     status_of(load_hub(store, hub), port)
 }
 
-// Its child.
+// The child of a port of the hub at a place: 0 none, else place + 1.
 pub fn port_child(store: &[u8], hub: usize, port: usize) -> u8
     requires { ⌜ (length (now store) ≡ StoreLength) × (hub < Places) × (port < Ports) ⌝ }
     ensures { λ r. ⌜ r ≡ byteAt (now (store .entry)) hub (Child port) ⌝ }

@@ -24,10 +24,11 @@ unfoldable pub kindsIn : (ℕ → Bool) → ℕ → List ℕ → ℕ
 kindsIn test zero log = 0
 kindsIn test (suc n) log = cond (test (getD log 0 0)) 1 0 + kindsIn test n (drop ActionLength log)
 
--- "kind (1 request, 2 wait, 3 `DwcUpdateHostFrameInterval`)"
+-- how many of them are requests: "kind (1 request, ..)"
 abbrev pub requestsIn : ℕ → List ℕ → ℕ
 requestsIn n log = kindsIn (λ kind. eqb kind 1) n log
 
+-- "kind (1 request, 2 wait, 3 `DwcUpdateHostFrameInterval`)"
 abbrev pub isKind : ℕ → Bool
 isKind kind = ltb 0 kind && ltb kind 4
 
