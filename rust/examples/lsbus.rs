@@ -1,6 +1,5 @@
 //! Attaches an empty store with the outcomes of a file, or of standard input,
-//! and prints the bus as `lsusb -t` of usbutils before 014 does, ports counted
-//! from 1:
+//! and prints the bus as `lsusb -t` of usbutils 014 does, ports counted from 1:
 //!
 //!     lsbus [--speed 0|1|2] [FILE]
 //!
