@@ -1,10 +1,8 @@
 //! The calls that are timed. Stores other than the empty one are those that a
-//! root attach of the original leaves; the one with gaps is what port checks of
-//! the port, which unplug, make of such a store.
+//! root attach of the original leaves.
 
-use comparison::port::port_check;
 use reference::call::{Call, Ended, Entry};
-use reference::layout::{devices, LOG, STORE};
+use reference::layout::{LOG, STORE};
 use reference::run::run;
 use reference::script::*;
 
@@ -120,63 +118,7 @@ fn attached(root: &[At]) -> Aligned {
     new
 }
 
-/// A port check that finds the port's device gone.
-fn pulled() -> Script {
-    Script::new()
-        .gives(&port(POWERED, 1))
-        .gives(&port(POWERED, 1))
-        .done()
-        .gives(&port(POWERED, 0))
-}
-
-/// The store that the port's check of a port leaves.
-fn checked(old: &[u8], [hub, port]: [u32; 2], script: Script) -> Aligned {
-    let mut new = Aligned::new(STORE, 0, 0);
-    let reply = port_check(old, &mut new, &script.0, &mut vec![0; LOG], hub, port);
-    assert_eq!(reply.answer, 0);
-    new
-}
-
-/// The full bus, from which the first hub (places 1 to 8), two keyboards on the
-/// root hub (25 and 27) and one on the third hub (18) were pulled. On that
-/// keyboard's port then stands a hub of four ports with two keyboards: it has
-/// place 1, they have 2 and 3, and the hub above it has 17.
-fn gaps() -> Aligned {
-    let hub = At::Hub(ports(4, &[At::Keyboard, At::Keyboard]));
-    let changes = [
-        ([0, 0], pulled()),
-        ([0, 3], pulled()),
-        ([0, 5], pulled()),
-        ([17, 0], pulled()),
-        ([17, 0], found(&hub)),
-    ];
-    let mut store = attached(&full());
-    for (at, script) in changes {
-        store = checked(&store, at, script);
-    }
-    let used = (0..4).chain(9..18).chain(19..25).chain([26]).chain(28..32);
-    assert!(devices(&store).eq(used), "the port has not unplugged");
-    store
-}
-
 pub fn all() -> Vec<Case> {
-    let mut cases = packed();
-    cases.push(with_gaps());
-    cases
-}
-
-pub fn with_gaps() -> Case {
-    Case {
-        key: "gaps",
-        words: "port check on a bus with gaps",
-        call: Call::new(Entry::PortCheck, 0, 9),
-        old: gaps(),
-        outcomes: unchanged(&[At::Keyboard]).0,
-    }
-}
-
-/// The cases whose stores have no unused place before a used one.
-pub fn packed() -> Vec<Case> {
     let four = vec![At::Keyboard; 4];
     vec![
         root_attach("root4", "root hub with 4 devices", &four),

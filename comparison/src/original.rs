@@ -1,25 +1,6 @@
-//! The original's calls and walks, where its files are there. Where they are
-//! missing, the rules answer for the walk.
+//! The original's walk. Where its files are missing the rules answer for it.
 
 use reference::outside::Outside;
-
-use crate::calls::Original;
-use crate::lent::Asked;
-
-/// The original's call on the same outcomes.
-#[cfg(have_original)]
-pub fn call(asked: &Asked) -> Option<Original> {
-    use reference::vectors::FILL;
-    let mut new = vec![FILL; asked.new_length];
-    let mut log = vec![FILL; asked.log_capacity];
-    let report = reference::run::run(asked.call, asked.old, &mut new, asked.outcomes, &mut log);
-    Some(Original { report, new, log })
-}
-
-#[cfg(not(have_original))]
-pub fn call(_: &Asked) -> Option<Original> {
-    None
-}
 
 /// The original's answer, or the case in which it is outside the comparison.
 #[cfg(have_original)]

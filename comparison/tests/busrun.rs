@@ -54,7 +54,7 @@ fn is_busruns(recorded: &RecordedCall) -> bool {
 fn recorded_root_attaches() {
     let calls = recorded_calls();
     let calls: Vec<&RecordedCall> = calls.iter().filter(|call| is_busruns(call)).collect();
-    assert_eq!(calls.len(), 313);
+    assert_eq!(calls.len(), 280);
     for recorded in calls {
         let (written, read) = busrun(&recorded.outcomes, "recorded");
         assert_eq!(read, recorded.outcomes.len() as u64);

@@ -3,8 +3,7 @@
 use std::cmp::Reverse;
 use std::collections::BTreeSet;
 
-use comparison::counts::Grid;
-use comparison::histories::run;
+use comparison::histories::{run, Grid};
 use reference::call::Entry;
 
 fn answers(grid: &Grid) -> BTreeSet<i32> {
@@ -25,25 +24,6 @@ fn every_entry_point_is_run_and_refused() {
     assert!(counts.fewer_outcomes > 100 && counts.shorter_logs > 50);
 }
 
-#[test]
-fn devices_come_and_go() {
-    let counts = run(20_000, 5).unwrap_or_else(|text| panic!("{text}"));
-    let seen = &counts.unplugging;
-    assert!(
-        seen.calls > 300 && seen.places_freed > seen.calls,
-        "{seen:?}"
-    );
-    assert!(seen.deep_trees > 20, "{seen:?}");
-    assert!(seen.taken_anew > 20 && seen.gaps > 300, "{seen:?}");
-    assert!(seen.replaced > 10 && seen.children_gone > 10, "{seen:?}");
-    assert!(counts.restless_calls > 8_000, "{}", counts.restless_calls);
-    assert!(counts.judged_histories > 500 && counts.judged_calls > 3_000);
-    let nearest = counts.nearest_root_attach;
-    assert!(nearest.requests * 2 > nearest.most, "{nearest:?}");
-    let nearest = counts.nearest_scan;
-    assert!(nearest.requests * 4 > nearest.most, "{nearest:?}");
-}
-
 #[cfg(have_original)]
 #[test]
 fn stops_damaged_stores_and_cuts_are_reached() {
@@ -56,7 +36,6 @@ fn stops_damaged_stores_and_cuts_are_reached() {
         Outside::StoredEnum,
         Outside::HubDescriptorLength,
         Outside::BusFull,
-        Outside::Unplugged,
         Outside::ScanWithoutHubData,
         Outside::PowerWithoutDescriptor,
         Outside::ClearSuspend,

@@ -1,15 +1,10 @@
-//! Logged actions: some written by hand for tests, what answers them, and what an
-//! action means, in the words of USB 2.0.
+//! Logged actions: some written by hand for tests, and what an action means, in
+//! the words of USB 2.0.
 
 use crate::layout::ACTION;
 
 pub type Action = [u8; ACTION];
 pub type Setup = [u8; 8];
-
-/// Something that answers requests: it adds the outcome of one request.
-pub trait Answers {
-    fn answer(&mut self, action: &Action, outcomes: &mut Vec<u8>);
-}
 
 pub fn wait(microseconds: u32) -> Action {
     let [a, b, c, d] = microseconds.to_le_bytes();

@@ -97,13 +97,7 @@ pub fn is_stop(answer: i32) -> bool {
     (-15..=-13).contains(&answer)
 }
 
-/// 8·d + 444·h: the most requests of a root attach that leaves this store.
+/// 8·d + 444·h: the most requests of a call that leaves this store.
 pub fn most_requests(store: &[u8]) -> u64 {
     8 * devices(store).count() as u64 + 444 * hubs(store).count() as u64
-}
-
-/// 8·d + 904·h: the most requests of a scan. Both count the store before it and
-/// all that were taken during it, a place taken anew again.
-pub fn most_scan_requests(devices: u64, hubs: u64) -> u64 {
-    8 * devices + 904 * hubs
 }

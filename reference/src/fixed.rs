@@ -1,7 +1,6 @@
 //! Calls written by hand that are recorded in front of the random ones: entry
-//! refusals one by one, each rule of the sound store, bench lines, stores with
-//! gaps, and what stands beside unplugging. Each has its answer from document 01
-//! and request e) of document 02.
+//! refusals one by one, each rule of the sound store, and bench lines. Each
+//! has its answer from document 01.
 
 use crate::call::{Call, Entry};
 use crate::layout::*;
@@ -58,8 +57,6 @@ pub fn calls() -> Vec<RecordedCall> {
             .map(|edits| call(Entry::Scan, 0, 0, -16).edited(&edits)),
     );
     calls.extend(resets());
-    calls.extend(hub_at_a_larger_place());
-    calls.extend(beside_unplugging());
     calls
 }
 
@@ -74,8 +71,6 @@ fn on_the_empty_store() -> Vec<RecordedCall> {
         root(3, -16).edited(&[(0, 2)]),
         root(4, -2).edited(&[(0, 2)]),
         root(0, -16).edited(&[(STORE - 1, 1)]),
-        root(0, -16).edited(&[(PLACE, 1)]), // place 0 is unused
-        root(0, -16).edited(&[(PLACE, 1), (PLACE + HUB, 1), (PLACE + CHILDREN, 2)]),
     ];
     calls.extend(Entry::with_hub().map(|entry| call(entry, 0, 0, -2)));
     calls
@@ -147,6 +142,7 @@ fn damages() -> Vec<Vec<(usize, u8)>> {
         (MAX_CHILDREN, 11),
         (CHILDREN, 0),      // place 1 is nobody's child
         (CHILDREN, 1),      // place 0 is a child
+        (CHILDREN + 1, 2),  // place 1 is a child twice
         (CHILDREN + 9, 3),  // an unused place is a child
         (CHILDREN + 9, 33), // no place is
         (MAX_CHILDREN + 1, 1),
@@ -159,27 +155,16 @@ fn damages() -> Vec<Vec<(usize, u8)>> {
         (PLACE + HUB_DESCRIPTOR, 1),
         (PLACE + PORT_STATUSES, 1),
         (PLACE + MAX_CHILDREN, 1),
-        (HUB, 1), // its descriptor is still there
         (2 * PLACE, 1),
         (2 * PLACE + PLACE - 1, 1),
-        (3 * PLACE, 1), // nobody's child, behind a gap
         (STORE - 1, 1),
     ]
     .map(|edit| vec![edit])
     .to_vec();
-    damages.extend(damaged_trees());
+    damages.push(vec![(HUB, 1)]); // its descriptor is still there
+    damages.push(vec![(3 * PLACE, 1), (CHILDREN + 1, 4)]); // place 2 is unused
+    damages.push(vec![(PLACE + HUB, 2), (PLACE + CHILDREN, 2), (CHILDREN, 0)]); // its own child
     damages
-}
-
-fn damaged_trees() -> [Vec<(usize, u8)>; 3] {
-    let twice_a_child = vec![(CHILDREN + 1, 2), (PLACE + PARENT, 0)];
-    let hub_on_no_port = [(CHILDREN, 0), (PLACE + PARENT, 0), (PLACE + HUB, 2)];
-    let mut own_child = hub_on_no_port.to_vec();
-    own_child.push((PLACE + CHILDREN, 2));
-    let mut each_others = hub_on_no_port.to_vec();
-    each_others.extend([(PLACE + CHILDREN, 4), (3 * PLACE, 1)]);
-    each_others.extend([(3 * PLACE + HUB, 2), (3 * PLACE + CHILDREN, 2)]);
-    [twice_a_child, own_child, each_others]
 }
 
 /// The resets of the bench table, and the retried reset's tenth reads.
@@ -199,81 +184,6 @@ fn resets() -> Vec<RecordedCall> {
             log_capacity: 4096,
             ..retried
         },
-    ]
-}
-
-/// What `UsbDevice::new` and `UsbAllocateDevice` leave in a place, as a hub of one
-/// port on port 1 of place 0.
-fn hub_on_port_1(at: usize) -> Vec<(usize, u8)> {
-    let mut bytes = vec![
-        (USED, 1),
-        (NUMBER, at as u8 + 1),
-        (SPEED, 1),
-        (CONFIGURATION_INDEX, 0xff),
-        (PORT_NUMBER, 1),
-        (PARENT, 1),
-        (HUB, 2),
-        (DEVICE_DESCRIPTOR + 1, 1),
-        (DEVICE_DESCRIPTOR + 4, 9),
-        (DEVICE_DESCRIPTOR + 7, 8),
-        (CONFIGURATION + 1, 1),
-        (HUB_DESCRIPTOR + 1, 41),
-        (MAX_CHILDREN, 1),
-    ];
-    let interfaces = (RECORD..ENDPOINTS).step_by(INTERFACE_LENGTH);
-    let endpoints = (ENDPOINTS..RECORD_END).step_by(ENDPOINT_LENGTH);
-    bytes.extend(interfaces.chain(endpoints).map(|slot| (slot + 1, 1)));
-    let mut edits: Vec<(usize, u8)> = bytes
-        .into_iter()
-        .map(|(field, byte)| (at * PLACE + field, byte))
-        .collect();
-    edits.push((CHILDREN + 1, at as u8 + 1));
-    edits
-}
-
-/// Place 3 becomes a hub while place 2 is unused. A hub found on it takes place 2,
-/// and a keyboard found there place 4.
-fn hub_at_a_larger_place() -> Vec<RecordedCall> {
-    let long = |call: RecordedCall, script: Script| RecordedCall {
-        log_capacity: 4096,
-        ..call.given(script)
-    };
-    let hub = found_device(HIGH)
-        .then(hub_attach(1, 1))
-        .gives(&port(POWERED, 0));
-    let found_hub = call(Entry::PortCheck, 3, 0, 0).edited(&hub_on_port_1(3));
-    let keyboard = found_device(HIGH).then(attach(&KEYBOARD_CONFIGURATION));
-    let nothing_new = Script::new().gives(&port(HIGH, 0)).gives(&port(POWERED, 0));
-    let still_there = Script::new().gives(&port(HIGH, 0));
-    let without_root = [
-        (CHILDREN + 1, 0),
-        (3 * PLACE + PARENT, 0),
-        (2 * PLACE + CHILDREN + 1, 4),
-    ];
-    vec![
-        long(found_hub, hub),
-        call(Entry::Scan, 3, 0, 0).given(nothing_new),
-        call(Entry::Scan, 0, 0, -16).edited(&without_root), // places 2 and 3 are each other's child
-        long(call(Entry::PortCheck, 2, 0, 0), keyboard),
-        call(Entry::ChildReset, 3, 2, 0).given(late_reset(port(HIGH, 0x10))),
-        call(Entry::ChildCheck, 3, 2, 0).given(still_there),
-        call(Entry::ChildCheck, 2, 3, -2),
-    ]
-}
-
-/// Connection changes that unplug nothing.
-fn beside_unplugging() -> Vec<RecordedCall> {
-    let change = |at, answer| call(Entry::ConnectionChange, 0, at, answer);
-    let first = Script::new().gives(&port(POWERED, 1));
-    let cleared = first.clone().done();
-    vec![
-        change(0, -5).given(cleared.clone().gives(&port(0x101, 0))),
-        change(0, -5).given(cleared.clone().gives(&port(0x102, 0))), // enabled alone
-        change(5, -5).given(cleared.clone().gives(&port(POWERED, 0))), // no child
-        change(0, -4).given(cleared.clone().outcome(0, 1, &port(POWERED, 0))),
-        change(0, -7).given(cleared.clone().outcome(7, 0, &port(POWERED, 0))),
-        change(0, -4).given(cleared.gives(&port(POWERED, 0)[..3])),
-        change(0, -8).given(first.outcome(0, 31, &[])),
     ]
 }
 

@@ -64,26 +64,6 @@ pub fn devices(store: &[u8]) -> impl Iterator<Item = usize> + '_ {
     (0..PLACES).filter(|&at| is_used(store, at))
 }
 
-/// The place that a new device gets; none where all are used.
-pub fn first_unused(store: &[u8]) -> Option<usize> {
-    (0..PLACES).find(|&at| !is_used(store, at))
-}
-
-/// Whether an unused place stands before a used one.
-pub fn has_gap(store: &[u8]) -> bool {
-    first_unused(store).is_some_and(|gap| devices(store).any(|at| at > gap))
-}
-
-/// Whether a hub stands at a larger place than one of its children.
-pub fn has_larger_hub(store: &[u8]) -> bool {
-    hubs(store).any(|hub| {
-        let children = &place(store, hub)[CHILDREN..][..PORTS];
-        children
-            .iter()
-            .any(|&child| child != 0 && usize::from(child) <= hub)
-    })
-}
-
 /// The places of hubs.
 pub fn hubs(store: &[u8]) -> impl Iterator<Item = usize> + '_ {
     (0..PLACES).filter(|&at| is_hub(store, at))

@@ -36,7 +36,6 @@ pub mod rules;
 pub mod sample;
 pub mod script;
 pub mod sound;
-pub mod unplug;
 pub mod vectors;
 
 /// One line for the programs to print where the original's files are missing.

@@ -1,5 +1,4 @@
-//! The sound store, rule by rule as document 01 gives it and request e) of
-//! document 02 changes it.
+//! The sound store, rule by rule as document 01 gives it.
 
 use crate::layout::*;
 
@@ -8,10 +7,11 @@ pub fn is_sound(store: &[u8]) -> bool {
     used_places(store) && fields(store) && tree(store)
 }
 
-/// Used is 0 or 1; unused places are zero.
+/// Used is 0 or 1; unused places are zero; none stands before a used one.
 fn used_places(store: &[u8]) -> bool {
-    let mut places = (0..PLACES).map(|at| place(store, at));
-    places.all(|place| place[USED] == 1 || is_zero(place))
+    let places = || (0..PLACES).map(|at| place(store, at));
+    let used = places().take_while(|place| place[USED] == 1).count();
+    places().skip(used).all(is_zero)
 }
 
 fn fields(store: &[u8]) -> bool {
@@ -38,22 +38,10 @@ fn place_fields(at: usize, place: &[u8]) -> bool {
         && is_zero(&place[RECORD_END..])
 }
 
-/// Hub and port of each place that is a child.
-type Standing = [Option<(usize, usize)>; PLACES];
-
-/// Every used place but place 0 is a child exactly once, of a hub, and following
-/// hubs upward reaches place 0; its parent is 0 or that hub, with that port;
-/// place 0 has no parent.
+/// Children are used places; every used place but the root is a child exactly
+/// once, of a hub at a smaller place; its parent is 0 or that hub, with that
+/// port; the root is nobody's child and has no parent.
 fn tree(store: &[u8]) -> bool {
-    let Some(standing) = standing(store) else {
-        return false;
-    };
-    devices(store)
-        .all(|at| has_its_parent(place(store, at), standing[at]) && reaches_place_0(at, &standing))
-}
-
-/// Where each place stands; none where a child is no used place, or a child twice.
-fn standing(store: &[u8]) -> Option<Standing> {
     let mut standing = [None; PLACES];
     for hub in devices(store) {
         for port in 0..PORTS {
@@ -62,31 +50,19 @@ fn standing(store: &[u8]) -> Option<Standing> {
                 continue;
             }
             let child = child - 1;
-            if !is_used(store, child) || standing[child].is_some() {
-                return None;
+            if child <= hub || !is_used(store, child) || standing[child].is_some() {
+                return false;
             }
             standing[child] = Some((hub, port));
         }
     }
-    Some(standing)
+    devices(store).all(|at| has_its_parent(at, place(store, at), standing[at]))
 }
 
-/// Whether the way from hub to hub upward ends at place 0. Hubs are used places, so
-/// that place 0 is then used; where it is a child, no way ends there.
-fn reaches_place_0(mut at: usize, standing: &Standing) -> bool {
-    for _ in 0..PLACES {
-        match standing[at] {
-            None => return at == 0,
-            Some((hub, _)) => at = hub,
-        }
-    }
-    false
-}
-
-fn has_its_parent(place: &[u8], standing: Option<(usize, usize)>) -> bool {
+fn has_its_parent(at: usize, place: &[u8], standing: Option<(usize, usize)>) -> bool {
     let parent = usize::from(place[PARENT]);
     match standing {
-        None => parent == 0,
+        None => at == 0 && parent == 0,
         Some((hub, port)) => {
             parent == 0 || (parent == hub + 1 && usize::from(place[PORT_NUMBER]) == port)
         }

@@ -76,11 +76,6 @@ impl RecordedCall {
         old
     }
 
-    /// Bytes in the file.
-    pub fn length(&self) -> usize {
-        48 + 5 * self.edits.len() + self.outcomes.len()
-    }
-
     pub fn write(&self, to: &mut Vec<u8>) {
         let entry = Entry::ALL
             .iter()

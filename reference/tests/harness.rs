@@ -16,7 +16,6 @@ use reference::run::{run, run_with, Outcomes};
 use reference::script::*;
 use reference::sound::is_sound;
 use reference::stand_ins::Answers;
-use reference::unplug::unplug;
 use reference::vectors::{Replay, FILL};
 
 fn assert_round_trip(store: &[u8]) {
@@ -65,64 +64,6 @@ fn store_to_bus_and_back_is_the_identity() {
         assert!(is_sound(&store));
         assert_round_trip(&store);
     }
-}
-
-/// The same tree with each device at another place.
-fn moved(store: &[u8], to: &[usize]) -> Vec<u8> {
-    let mut new = vec![0; STORE];
-    let renamed = |byte: u8| match usize::from(byte).checked_sub(1) {
-        Some(at) => to[at] as u8 + 1,
-        None => 0,
-    };
-    for at in devices(store) {
-        let bytes = place_mut(&mut new, to[at]);
-        bytes.copy_from_slice(place(store, at));
-        bytes[NUMBER] = to[at] as u8 + 1;
-        bytes[PARENT] = renamed(bytes[PARENT]);
-        for child in &mut bytes[CHILDREN..MAX_CHILDREN] {
-            *child = renamed(*child);
-        }
-    }
-    new
-}
-
-#[test]
-fn gaps_and_hubs_at_larger_places_round_trip() {
-    for to in [[0, 2], [0, 31]] {
-        let gap = moved(&root_and_keyboard(), &to);
-        assert!(is_sound(&gap) && has_gap(&gap));
-        assert_round_trip(&gap);
-    }
-    // the root stays, the others in the opposite order
-    let to: Vec<usize> = (0..PLACES).map(|at| (PLACES - at) % PLACES).collect();
-    let mut turned = moved(&full_bus(), &to);
-    assert!(is_sound(&turned) && has_larger_hub(&turned));
-    assert_round_trip(&turned);
-    // place 31 holds ten, which leave with it
-    unplug(&mut turned, 0, 0);
-    assert!(is_sound(&turned) && has_gap(&turned));
-    assert_eq!(devices(&turned).count(), PLACES - 1 - 10);
-    assert_round_trip(&turned);
-}
-
-#[test]
-fn freed_places_are_given_out_again_lowest_first() {
-    let mut store = full_bus();
-    unplug(&mut store, 0, 1); // places 2 and 21 to 30
-    unplug(&mut store, 0, 4); // place 5
-    assert_eq!(first_unused(&store), Some(2));
-    let keyboard = || found_device(HIGH).then(attach(&KEYBOARD_CONFIGURATION));
-    for (at, expected) in [(4, 2), (1, 5)] {
-        let run = run_call(Entry::PortCheck, 0, at, &store, keyboard());
-        assert_eq!(run.answer(), 0);
-        store = run.new;
-        assert_eq!(usize::from(store[CHILDREN + at as usize]), expected + 1);
-        let bytes = place(&store, expected);
-        assert_eq!(bytes[NUMBER], expected as u8 + 1);
-        assert_eq!((bytes[PARENT], bytes[PORT_NUMBER]), (1, at as u8));
-        assert!(is_sound(&store));
-    }
-    assert_eq!(first_unused(&store), Some(21));
 }
 
 #[test]
@@ -186,7 +127,7 @@ fn the_calls_written_by_hand_answer_as_document_01_says() {
         let (answered, report) = replay.call(&asked);
         assert_eq!(report.ended, Ended::Inside, "{asked:?}");
         assert_eq!(answered.answer, asked.answer, "{asked:?}");
-        if asked.outcomes.is_empty() && asked.answer != -14 {
+        if [-2, -4, -12, -16].contains(&asked.answer) {
             assert_eq!(answered.requests, 0);
         }
     }

@@ -67,8 +67,7 @@ fn options(arguments: &[String]) -> io::Result<(u32, Option<&str>)> {
     }
 }
 
-/// The bus, its devices and the reply.
-pub fn print(store: &Store, reply: Reply, output: &mut impl Write) -> io::Result<()> {
+fn print(store: &Store, reply: Reply, output: &mut impl Write) -> io::Result<()> {
     if let Some(root) = store.device(0) {
         writeln!(output, "/:  Bus 01.Port 1: {}", describe_root(&root))?;
         print_children(store, &root, 1, output)?;
@@ -79,8 +78,7 @@ pub fn print(store: &Store, reply: Reply, output: &mut impl Write) -> io::Result
     writeln!(output, "{}, {} requests", reply.answer, reply.requests)
 }
 
-/// The devices on a hub's ports. Each device stands on one port, and the root hub
-/// on none, so that this ends.
+/// The devices on a hub's ports. A child's place is above its hub's.
 fn print_children(
     store: &Store,
     hub: &Device,

@@ -31,12 +31,9 @@ pub enum Answer {
     /// −3: a temporary failure.
     ErrorRetry = -3,
     /// −4: a device's failure. Also a refusal at entry: the root hub is
-    /// already attached. Also a [`child_check`](crate::child_check) that
-    /// unplugged its child.
+    /// already attached.
     ErrorDevice = -4,
-    /// −5: a device that the driver doesn't support. Also a
-    /// [`connection_change`](crate::connection_change) that has nothing to
-    /// attach and nothing to unplug.
+    /// −5: a device that the driver doesn't support.
     ErrorIncompatible = -5,
     /// −6: unusable code. Also what a number outside the table becomes in a
     /// [`Reply`], so that only a library other than the proved one gives it

@@ -95,8 +95,7 @@ impl fmt::Display for Status {
     }
 }
 
-/// A port of a hub. Where hubs are unplugged, another hub may have the same
-/// place after a call; see [`Route`] for what stays.
+/// A port of a hub.
 #[derive(Debug, Clone, Copy, PartialEq, Eq, PartialOrd, Ord, Hash)]
 pub struct HubPort {
     /// The hub's place.
@@ -129,14 +128,9 @@ impl PortStatus {
 }
 
 /// A used place of a store.
-///
-/// Two devices of the same make that had the same place one after the other are
-/// equal here. Which one it is, only the log of the calls tells: see the crate's
-/// text on [unplugging](crate#unplugging).
 #[derive(Debug, Clone, Copy, PartialEq, Eq, Hash)]
 pub struct Device {
-    /// The place, 0 for the root hub: what the calls take as hub or child. It is
-    /// the device's until it, or a hub above it, is unplugged.
+    /// The place, 0 for the root hub: what the calls take as hub or child.
     pub place: u32,
     /// The device's address: place + 1.
     pub address: u8,
@@ -220,12 +214,10 @@ fn children(bytes: &Place) -> &[u8] {
     }
 }
 
-/// The port on which a place other than the root hub's stands as a child. A hub
-/// may have a larger place than its child. Of several ports, which no sound store
-/// has, it is the first.
+/// The port on which a place stands as a child: of a hub at a smaller place.
 fn port_of(store: &Store, place: u32) -> Option<HubPort> {
-    let byte = address(place).filter(|_| place != 0)?;
-    (0..PLACES).find_map(|hub| {
+    let byte = address(place)?;
+    (0..place).find_map(|hub| {
         let children = children(store.place(hub)?);
         let port = children.iter().position(|child| *child == byte)?;
         let port = u32::try_from(port).ok()?;
@@ -254,9 +246,8 @@ pub(crate) fn port_status(store: &Store, at: HubPort) -> Option<PortStatus> {
 
 /// An iterator over the devices of a store, in the order of their places.
 ///
-/// It passes over a place that is not used, which may stand before used ones, or
-/// that holds a speed, status or hub byte outside its table; a sound store has
-/// none of the latter.
+/// It passes over a place that is not used, or that holds a speed, status or
+/// hub byte outside its table; a sound store has none of the latter.
 ///
 /// ```
 /// use lidrumak::Store;
@@ -295,44 +286,27 @@ impl Iterator for Devices<'_> {
 impl FusedIterator for Devices<'_> {}
 
 /// An iterator over the ports on the way from a device to the root hub, its own
-/// port first.
-///
-/// The numbers of the ports say where a device is plugged in. Places and
-/// addresses, the hubs' too, depend on the order in which devices were found and
-/// unplugged.
-///
-/// There are at most 31 ports on the way. In a store that isn't sound it may
-/// never reach the root hub; the iterator then ends after 31 ports at the latest.
+/// port first. The ports, unlike places and addresses, do not depend on the
+/// order in which devices were found.
 #[derive(Debug, Clone)]
 pub struct Route<'a> {
     store: &'a Store,
     next: Option<HubPort>,
-    /// How many ports may follow.
-    left: u32,
 }
 
 impl<'a> Route<'a> {
     pub(crate) fn new(store: &'a Store, place: u32) -> Route<'a> {
-        Route {
-            store,
-            next: own_port(store, place),
-            left: PLACES.saturating_sub(1),
-        }
+        let next = Device::read(store, place).and_then(|device| device.port);
+        Route { store, next }
     }
-}
-
-/// The port of the device at a place.
-fn own_port(store: &Store, place: u32) -> Option<HubPort> {
-    Device::read(store, place)?.port
 }
 
 impl Iterator for Route<'_> {
     type Item = HubPort;
 
     fn next(&mut self) -> Option<HubPort> {
-        self.left = self.left.checked_sub(1)?;
         let port = self.next?;
-        self.next = own_port(self.store, port.hub);
+        self.next = Route::new(self.store, port.hub).next;
         Some(port)
     }
 }

@@ -62,14 +62,10 @@ calls! {
     root_attach, lidrumak_root_attach, speed;
 
     /// `HubCheckForChange`: checks every port of the hub at place `hub`, and of
-    /// the hubs behind it: devices that were plugged in are attached, those that
-    /// are gone leave the store with all behind them. It goes on with what stands
-    /// on a port after its check. See [unplugging](crate#unplugging).
+    /// the hubs behind it.
     scan, lidrumak_scan, hub;
 
-    /// `HubCheckConnection`: checks one port, counted from 0. 0 says that the
-    /// check has ended, and not what it found: see
-    /// [`device_on`](crate::Store::device_on).
+    /// `HubCheckConnection`: checks one port, counted from 0.
     port_check, lidrumak_port_check, hub, port;
 
     /// `HubChildReset`: resets the port on which the device at place `child`
@@ -78,26 +74,14 @@ calls! {
 
     /// `HubCheckConnectionDevice`: checks the port on which the device at place
     /// `child` stands.
-    ///
-    /// - 0: the device has kept its place.
-    /// - −4 in place of 0: the device was unplugged. Its place is free, or was
-    ///   given out again by this check; [`device_on`](crate::Store::device_on)
-    ///   then shows what was found on the port.
-    /// - −1 to −9 with requests, −4 too: a status read, or a clear of suspend or
-    ///   of the reset change, failed. The device has kept its place if it stands
-    ///   on the port and the log has no reset of it.
-    /// - −2 without a request: it is not this hub's child; nothing was done.
     child_check, lidrumak_child_check, hub, child;
 
     /// `HubPortReset`: resets a port, counted from 0, in up to three tries.
     retried_reset, lidrumak_retried_reset, hub, port;
 
     /// `HubPortConnectionChanged`: attaches what was connected to a port,
-    /// counted from 0, or takes what was unplugged there out of the store; also
-    /// where an earlier connection change of that port failed after it had
-    /// cleared the change, so that a scan sees none. Both are 0. −5 without a
-    /// reset in the log: nothing is connected and no device stands there, or
-    /// something is connected (or enabled) and a device stands there.
+    /// counted from 0; also where an earlier connection change of that port
+    /// failed after it had cleared the change, so that a scan sees none.
     connection_change, lidrumak_connection_change, hub, port;
 }
 

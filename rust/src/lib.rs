@@ -76,62 +76,6 @@
 //! # Ok::<(), lidrumak::Refused>(())
 //! ```
 //!
-//! # Unplugging
-//!
-//! A device leaves the store, with all that stands behind it, when the last
-//! status read of a connection change before any reset shows its port neither
-//! connected nor enabled: in a [`scan`], a [`port_check`], a [`child_check`] or a
-//! [`connection_change`]. Its place is free then. New devices get the lowest free
-//! place.
-//!
-//! ```
-//! # use lidrumak::{Answer, Bus, HubPort, Outcome, Outcomes};
-//! # let start = include_bytes!(concat!(
-//! #     env!("CARGO_MANIFEST_DIR"),
-//! #     "/../samples/bench_start.outcomes"
-//! # ));
-//! # let (mut buffer, mut log) = (vec![0; 64], vec![0; 4096]);
-//! # let mut bus = Box::new(Bus::new());
-//! # bus.root_attach(start, &mut log, 0);
-//! let mut outcomes = Outcomes::new(&mut buffer);
-//! outcomes.push(Outcome::done(&[0, 1, 1, 0]))?; // powered; connection change
-//! outcomes.push(Outcome::done(&[0, 1, 1, 0]))?;
-//! outcomes.push(Outcome::done(&[]))?; // the change is cleared
-//! outcomes.push(Outcome::done(&[0, 1, 0, 0]))?;
-//!
-//! let port = HubPort { hub: 0, port: 1 };
-//! let place = bus.store().device_on(port).map(|device| device.place);
-//! assert_eq!(place, Some(1));
-//! let reply = bus.port_check(outcomes.as_bytes(), &mut log, port.hub, port.port);
-//! assert_eq!((reply.answer, reply.requests), (Answer::Ok, 4));
-//! assert_eq!(bus.store().device_on(port), None);
-//! assert_eq!(bus.store().device(1), None);
-//! # Ok::<(), lidrumak::Refused>(())
-//! ```
-//!
-//! So a place, and the address place + 1, says which device is meant in one store
-//! and not across calls: a later store may have another device there, or none. A
-//! [`HubPort`] names its hub by the place. Where a device is plugged in is said
-//! by the port numbers of its [`Route`].
-//!
-//! Whether a device is the one of before, the store doesn't say: one call can
-//! find a device gone and another of its make on the same port, and give it the
-//! same place. The [`Actions`] of a scan or check say it, by the requests to the
-//! port's hub, at address hub + 1, with the port, counted from 1, as their
-//! [`index`](Request::index):
-//!
-//! - SetFeature PORT_RESET, setup bytes `23 03 04 00`: what stands on the port
-//!   was found by this call. Only [`child_reset`] and [`retried_reset`] reset a
-//!   port on which a device stands.
-//! - ClearFeature C_PORT_CONNECTION, `23 01 10 00`, no reset, and a device stands
-//!   on the port: its connection was lost, at least for a time, or its port was
-//!   disabled. The store shows the device as before; what is connected now, if
-//!   anything, doesn't answer at its address, and may be another device.
-//!   README.md says what to do.
-//! - Neither: the call has seen no change on this port.
-//!
-//! The example `kernel_glue` reads this off a scan.
-//!
 //! Nothing here panics, whatever the bytes. Words and numbers are those of
 //! *document 01*, the requirements that the repository's docs/PROMISES.md
 //! quotes.

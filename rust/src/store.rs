@@ -45,20 +45,17 @@ impl Store {
         &mut self.0
     }
 
-    /// The devices, in the order of their places. Unused places may stand between
-    /// them.
+    /// The devices, in the order of their places.
     pub const fn devices(&self) -> Devices<'_> {
         Devices::new(self)
     }
 
-    /// The device at a place. After another call it may be another device: see
-    /// [unplugging](crate#unplugging).
+    /// The device at a place.
     pub fn device(&self, place: u32) -> Option<Device> {
         Device::read(self, place)
     }
 
-    /// The device that stands on a hub's port: `None` where none was found, or
-    /// where it was unplugged.
+    /// The device that stands on a hub's port.
     pub fn device_on(&self, port: HubPort) -> Option<Device> {
         let device = self.device(place_on(self, port)?)?;
         (device.port == Some(port)).then_some(device)
@@ -70,8 +67,7 @@ impl Store {
         port_status(self, port)
     }
 
-    /// The ports on the way from the device at a place to the root hub: at most
-    /// 31.
+    /// The ports on the way from the device at a place to the root hub.
     pub fn route(&self, place: u32) -> Route<'_> {
         Route::new(self, place)
     }

@@ -101,8 +101,6 @@ fn inputs() -> Vec<Input> {
     damaged[127] = 1;
     let status: &[u8] = &[3, 1, 16, 0];
     let statuses = gives(&[status; 40]);
-    let gone: &[u8] = &[0, 1, 0, 0];
-    let pulled = gives(&[&[0, 1, 1, 0], gone, &[], gone, gone, gone]);
     let garbled = vec![0, 10, 0, 0];
     vec![
         (empty, SAMPLE.to_vec(), 0, 1),
@@ -111,7 +109,6 @@ fn inputs() -> Vec<Input> {
         (bench.clone(), statuses.clone(), 0, 3),
         (bench.clone(), statuses.clone(), 2, 3),
         (bench.clone(), statuses, 0, u32::MAX),
-        (bench.clone(), pulled, 0, 1),
         (bench.clone(), garbled, 2, 0),
         (bench, vec![], 0, 1),
     ]

@@ -16,7 +16,7 @@ mod lsbus;
 mod common;
 
 use common::SAMPLE;
-use kernel_glue::simulated::{Simulated, SECOND};
+use kernel_glue::simulated::Simulated;
 use kernel_glue::{drive, is_right, report, start_bench, Start};
 use lidrumak::{Action, Actions, Answer, Bus, Device, HubPort};
 
@@ -68,17 +68,17 @@ fn the_glue_performs_each_action_once() {
     for seed in 0..20 {
         let mut bus = Box::new(Bus::new());
         let mut controller = Simulated::new(seed, 0);
-        let mut log = vec![];
+        let log = std::cell::RefCell::new(vec![]);
         let reply = drive(&mut bus, &mut controller, |bus, outcomes, lent| {
             let reply = bus.root_attach(outcomes, lent, 0);
-            log = lent.to_vec();
+            *log.borrow_mut() = lent.to_vec();
             reply
         });
         assert_eq!(reply.answer, Answer::Ok);
         assert_eq!(reply.requests, controller.transfers);
         assert!((68..=74).contains(&reply.requests));
         assert_eq!(controller.frame_intervals, 3);
-        let waits = Actions::new(&log).fold(0, |sum, action| match action {
+        let waits = Actions::new(&log.borrow()).fold(0, |sum, action| match action {
             Action::Wait { microseconds } => sum + u64::from(microseconds),
             _ => sum,
         });
@@ -98,12 +98,6 @@ fn the_glue_finds_both_instruments_over_many_seeds() {
         let lines: Vec<&str> = text.lines().collect();
         assert!(lines[1].starts_with("instrument on 1-2: Dev "), "{text}");
         assert!(lines[2].starts_with("instrument on 1-3.1: Dev "), "{text}");
-        let became = [
-            "pulled: Gone",
-            "put in again: Anew",
-            "pulled and put in again: Lost",
-        ];
-        assert_eq!(lines[3..], became, "{text}");
         let again = kernel_glue::run(seed, &mut Simulated::new(seed, 40));
         assert_eq!(again, (text.clone(), true), "the same seed");
         by_a_scan += u32::from(lines[0].contains(": 1 starts, 1 scans, 0 connection changes, "));
@@ -154,7 +148,7 @@ fn the_glue_needs_one_start_without_disturbance() {
 #[test]
 fn the_glue_misses_an_unplugged_instrument() {
     let mut controller = Simulated::new(1, 0);
-    controller.pull(SECOND);
+    controller.unplug();
     let (text, right) = kernel_glue::run(1, &mut controller);
     assert!(!right);
     assert!(text.ends_with("an instrument is missing\n"), "{text}");

@@ -1,6 +1,5 @@
-//! What a failed transfer leaves of a device, and what finds it, or finds it
-//! gone: the lines of README.md on devices that failed, on kernel_glue's
-//! simulated bus.
+//! What a failed transfer leaves of a device, and what finds it: the lines of
+//! README.md on devices that failed, on kernel_glue's simulated bus.
 #![allow(
     clippy::arithmetic_side_effects,
     clippy::indexing_slicing,
@@ -12,8 +11,8 @@
 #[path = "../examples/kernel_glue/main.rs"]
 mod kernel_glue;
 
-use kernel_glue::simulated::{Simulated, FIRST, HUB, ROOT, SECOND};
-use kernel_glue::{drive, unsettled, HostController};
+use kernel_glue::simulated::Simulated;
+use kernel_glue::{childless, drive, HostController};
 use lidrumak::{Answer, Bus, Device, HubPort, Outcome, Reply, Request, Status, TransferError};
 
 /// A bus on which one transfer fails: number `left`, counted from 1, of those to
@@ -128,14 +127,14 @@ fn check(at: HubPort, (setup, count, acts, scan_finds): Row) {
     if !scan_finds {
         scan(&mut bus, &mut controller);
         assert_eq!(status_on(&bus, at), None, "{setup:?}, {count}");
-        assert_eq!(unsettled(&bus), [at], "{setup:?}, {count}");
+        assert_eq!(childless(&bus), [at], "{setup:?}, {count}");
         let reply = connection_change(&mut bus, &mut controller, at);
         assert_eq!(reply.answer, Answer::Ok, "{setup:?}, {count}");
     }
     let configured = Some(Status::Configured);
     assert_eq!(status_on(&bus, at), configured, "{setup:?}, {count}");
     assert_eq!(bus.store().devices().count(), 4);
-    assert_eq!(unsettled(&bus), []);
+    assert_eq!(childless(&bus), []);
 }
 
 #[test]
@@ -166,58 +165,8 @@ fn a_reset_that_failed_at_its_end_disturbs_the_next_device() {
     assert_eq!(status_on(&bus, instrument), Some(Status::Attached));
 }
 
-/// Which transfer of the check that finds an instrument gone fails, does the hub
-/// act on it; does a scan take the instrument out of the store afterwards?
-const PULLED_ROWS: [Row; 5] = [
-    (get_status, 1, false, true),
-    (get_status, 2, false, true),
-    (|port| clear(16, port), 1, false, true),
-    (|port| clear(16, port), 1, true, false),
-    (get_status, 3, false, false),
-];
-
-/// The instrument on a port was pulled, and stays in the store after a scan.
-fn check_pulled(device: usize, at: HubPort, (setup, count, acts, scan_finds): Row) {
-    let mut bus = Box::new(Bus::new());
-    let mut controller = Failing {
-        bus: Simulated::new(1, 0),
-        address: at.hub as u8 + 1,
-        setup: setup(at.port as u8 + 1),
-        left: 0,
-        acts,
-    };
-    let reply = drive(&mut bus, &mut controller, |bus, outcomes, log| {
-        bus.root_attach(outcomes, log, 0)
-    });
-    assert_eq!(reply.answer, Answer::Ok);
-    controller.left = count;
-    controller.bus.pull(device);
-    scan(&mut bus, &mut controller);
-    assert_eq!(controller.left, 0, "the transfer has failed");
-    let configured = Some(Status::Configured);
-    assert_eq!(status_on(&bus, at), configured, "{count}");
-    scan(&mut bus, &mut controller);
-    if !scan_finds {
-        assert_eq!(status_on(&bus, at), configured, "{count}");
-        assert_eq!(unsettled(&bus), [at], "{count}");
-        let reply = connection_change(&mut bus, &mut controller, at);
-        assert_eq!(reply.answer, Answer::Ok, "{count}");
-    }
-    assert_eq!(status_on(&bus, at), None, "{count}");
-    assert_eq!(bus.store().devices().count(), 3);
-    assert_eq!(unsettled(&bus), []);
-}
-
-#[test]
-fn an_instrument_that_was_pulled_stays_and_leaves() {
-    for row in PULLED_ROWS {
-        check_pulled(FIRST, HubPort { hub: 0, port: 1 }, row);
-        check_pulled(SECOND, HubPort { hub: 2, port: 0 }, row);
-    }
-}
-
 /// SetAddress, to address 0: the device has its place, and nothing tries it
-/// again while it is plugged in.
+/// again.
 #[test]
 fn a_device_that_failed_keeps_its_place() {
     let (mut bus, mut controller) = attached(0, [0, 5, 2, 0, 0, 0, 0, 0], 1, false);
@@ -237,48 +186,6 @@ fn a_device_that_failed_keeps_its_place() {
     assert_eq!(status_on(&bus, at), Some(Status::Configured));
 }
 
-/// SetConfiguration, to the instrument on the root hub. It is pulled and put in
-/// again, with a scan after each.
-#[test]
-fn a_device_that_failed_is_tried_when_it_is_put_in_again() {
-    let (mut bus, mut controller) = attached(2, [0, 9, 1, 0, 0, 0, 0, 0], 1, false);
-    let at = HubPort { hub: 0, port: 1 };
-    assert_eq!(status_on(&bus, at), Some(Status::Addressed));
-    controller.bus.pull(FIRST);
-    scan(&mut bus, &mut controller);
-    assert_eq!(status_on(&bus, at), None);
-    controller.bus.put(FIRST, ROOT, 1);
-    scan(&mut bus, &mut controller);
-    assert_eq!(status_on(&bus, at), Some(Status::Configured));
-    assert_eq!(bus.store().devices().count(), 4);
-}
-
-/// SetAddress, to address 0. The hub on the next port failed with it, and hears
-/// what is sent to the instrument when that is put in again; without the hub it
-/// is found.
-#[test]
-fn a_device_at_address_0_disturbs_until_it_is_pulled() {
-    let (mut bus, mut controller) = attached(0, [0, 5, 2, 0, 0, 0, 0, 0], 1, false);
-    let [instrument, hub] = [1, 2].map(|port| HubPort { hub: 0, port });
-    assert_eq!(status_on(&bus, hub), Some(Status::Attached));
-    let both = [(false, Status::Attached), (true, Status::Configured)];
-    for (without_hub, status) in both {
-        controller.bus.pull(FIRST);
-        if without_hub {
-            controller.bus.pull(HUB);
-        }
-        scan(&mut bus, &mut controller);
-        assert_eq!(status_on(&bus, instrument), None);
-        controller.bus.put(FIRST, ROOT, 1);
-        scan(&mut bus, &mut controller);
-        assert_eq!(status_on(&bus, instrument), Some(status));
-    }
-    controller.bus.put(HUB, ROOT, 2);
-    scan(&mut bus, &mut controller);
-    assert!(bus.store().devices().all(|device| device.is_configured()));
-    assert_eq!(bus.store().devices().count(), 4);
-}
-
 /// Setup bytes to the second hub, which of their transfers fails, the hub's ports
 /// in the store; does a scan find the instrument behind it?
 #[test]
@@ -294,7 +201,7 @@ fn a_hub_whose_attach_failed_is_shown_configured() {
         assert_eq!((hub.status, hub.ports), (Status::Configured, Some(ports)));
         let behind = |device: &Device| device.port.is_some_and(|at| at.hub == 2);
         assert_eq!(bus.store().devices().filter(behind).count(), 0);
-        assert_eq!(unsettled(&bus), []);
+        assert_eq!(childless(&bus), []);
         scan(&mut bus, &mut controller);
         let found = bus.store().devices().filter(behind).count();
         assert_eq!(found, usize::from(scan_finds), "{setup:?}, {count}");

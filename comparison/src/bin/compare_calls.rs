@@ -1,12 +1,11 @@
-//! Random calls of the port beside the model's and the original's.
+//! Random calls of the port beside the original's.
 //! Arguments: the number of calls and the seed.
 
 use std::cmp::Reverse;
 use std::collections::BTreeMap;
 use std::process::ExitCode;
 
-use comparison::counts::{Counts, Grid, Nearest, Unplugging};
-use comparison::histories::run;
+use comparison::histories::{run, Counts, Grid};
 use comparison::program;
 use reference::arguments::numbers;
 use reference::call::Entry;
@@ -17,7 +16,7 @@ const SEED: u64 = 1;
 
 fn main() -> ExitCode {
     let [calls, seed] = numbers([CALLS, SEED]);
-    let alone = "the port is compared with the model alone";
+    let alone = "the port is held to what document 01 says of every call";
     program::run(alone, || run(calls, seed), show)
 }
 
@@ -30,46 +29,9 @@ fn show(counts: &Counts) {
         "repeats: {} with fewer outcomes, {} with a shorter log",
         counts.fewer_outcomes, counts.shorter_logs
     );
-    println!(
-        "judged: {} histories of {} calls that ended",
-        counts.judged_histories, counts.judged_calls
-    );
-    println!(
-        "{} calls in histories whose devices come and go",
-        counts.restless_calls
-    );
-    show_unplugging(&counts.unplugging);
-    show_nearest("root attach, 8·d + 444·h", counts.nearest_root_attach);
-    show_nearest("scan, 8·d + 904·h", counts.nearest_scan);
     let inside = if cfg!(have_original) { "inside, " } else { "" };
     show_grid(&format!("{inside}refused at entry"), &counts.refused);
     show_grid(&format!("{inside}run"), &counts.run);
-    show_outside(counts);
-    println!("{} calls, 0 differences", counts.calls);
-}
-
-fn show_unplugging(counts: &Unplugging) {
-    println!(
-        "something was unplugged in {} calls; {} places freed; {} trees of depth 3 and more",
-        counts.calls, counts.places_freed, counts.deep_trees
-    );
-    println!(
-        "{} places taken anew in the call that freed them; {} calls on a store with a gap",
-        counts.taken_anew, counts.gaps
-    );
-    println!(
-        "{} checks whose enable change unplugged and whose connection change took a new device; \
-         {} child checks that answered -4 for an unplugged child",
-        counts.replaced, counts.children_gone
-    );
-}
-
-fn show_nearest(what: &str, nearest: Nearest) {
-    let Nearest { requests, most } = nearest;
-    println!("nearest to the bound of a {what}: {requests} requests of {most}");
-}
-
-fn show_outside(counts: &Counts) {
     let mut cases: BTreeMap<Outside, Vec<String>> = BTreeMap::new();
     for ((case, Reverse(answer)), calls) in &counts.outside {
         let answers = cases.entry(*case).or_default();
@@ -81,6 +43,7 @@ fn show_outside(counts: &Counts) {
             answers.join(", ")
         );
     }
+    println!("{} calls, 0 differences", counts.calls);
 }
 
 /// A line for each answer, a column for each entry point.

@@ -15,8 +15,6 @@ fn three() -> Store {
 pub fn rows() -> Vec<Row> {
     let mut rows = damages();
     rows.extend(trees());
-    rows.extend(rings());
-    rows.extend(gaps());
     rows.extend(free());
     rows
 }
@@ -54,8 +52,14 @@ fn damages() -> Vec<Row> {
 
 fn trees() -> Vec<Row> {
     let broken = |name, at, field, byte: u8| damaged(name, three().put(at, field, &[byte]));
+    let hole = root_and_keyboard(2).hub(3, 1, 1).child(0, 1, 3);
     let own_child = three().put(0, CHILDREN + 1, &[0]).child(2, 0, 2);
-    let alone = Store::empty().put(1, USED, place(&three().0, 1));
+    let upward = Store::empty()
+        .hub(0, 2, 1)
+        .keyboard(1)
+        .hub(2, 1, 1)
+        .child(0, 1, 2)
+        .child(2, 0, 1);
     let of_keyboard = three().put(0, CHILDREN + 1, &[0]).put(1, CHILDREN, &[3]);
     let of_two = root(2)
         .hub(1, 1, 1)
@@ -75,52 +79,10 @@ fn trees() -> Vec<Row> {
         broken("place 0 has a parent", 0, PARENT, 1),
         broken("another parent", 1, PARENT, 3),
         broken("another port", 1, PORT_NUMBER, 1),
-        damaged("place 1 is used, place 0 is not", alone),
+        damaged("an unused place before a used one", hole),
         damaged("its own child", own_child),
+        damaged("a child before its hub", upward),
         damaged("a child of what is no hub", of_keyboard),
-    ]
-}
-
-/// Three hubs, each the next one's: following them upward does not reach place 0.
-fn rings() -> Vec<Row> {
-    let ring = |store: Store| {
-        let hubs = store.hub(3, 1, 1).hub(4, 1, 1).hub(5, 1, 1);
-        hubs.child(3, 0, 4).child(4, 0, 5).child(5, 0, 3)
-    };
-    let alone = ring(Store::empty());
-    let attach = "a root attach beside three hubs in a ring";
-    vec![
-        damaged("three hubs in a ring beside the root", ring(three())),
-        damaged("three hubs in a ring without a root", alone.clone()),
-        Row::new(attach, Entry::RootAttach, [0, 0], &alone).refused(-16),
-    ]
-}
-
-/// Gaps, and hubs at larger places than their children, as request e) of
-/// document 02 leaves them.
-fn gaps() -> Vec<Row> {
-    let sound = |name, store: Store| {
-        let store = store.put(0, MAX_CHILDREN, &[0]);
-        Row::new(name, Entry::Scan, [0, 0], &store)
-    };
-    let gap = root_and_keyboard(2).hub(3, 1, 1).child(0, 1, 3);
-    let larger = root(2)
-        .hub(2, 1, 1)
-        .child(0, 1, 2)
-        .keyboard(1)
-        .child(2, 0, 1);
-    let last = root(2).hub(31, 1, 1).child(0, 1, 31);
-    let hubs = (0..PLACES).fold(Store::empty(), |store, at| store.hub(at, 2, 1));
-    let downward = (2..PLACES).fold(hubs.child(0, 0, 31), |store, at| store.child(at, 1, at - 1));
-    vec![
-        sound("an unused place before a used one", gap),
-        sound("a child before its hub", larger.clone()),
-        sound(
-            "a child before its hub, and a gap",
-            larger.hub(30, 1, 1).child(2, 1, 30),
-        ),
-        sound("place 31 alone on the root", last),
-        sound("a chain from place 31 down to place 1", downward),
     ]
 }
 

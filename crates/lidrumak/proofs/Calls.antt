@@ -1,24 +1,23 @@
 -- Demand 3 of the exported calls, from demand 3 of the model and the exports' contracts. Assumes nothing.
 use mathlib.Core.Path.{◌≡◌, refl, sym, ap, ap₂, ◌∙◌, subst}
-use mathlib.Core.List.{List, []}
+use mathlib.Core.List.{List}
 use Prim.Native.Nat.{ℕ, ◌*◌, ◌≤◌}
 use native.Mathlib.Omega.{arith}
 use Rattle.usb_types.specs.Answers.{halt_number}
 use Rattle.usb_types.specs.declared.types.Halt.{Halt}
-use Rattle.usb_types.specs.declared.types.Refusal.{Refusal}
 use Rattle.usb_model.specs.Programs.{Ran, done, fail, halt, end_of}
 use Rattle.usb_model.specs.World.{World}
-use Rattle.usb_model.specs.Entry.{Lent, Left, Verdict, accepted, refused, start, answered, call}
+use Rattle.usb_model.specs.Entry.{Lent, Left, accepted, start, answered, call}
 use Rattle.usb_model.specs.Kept.{LentBytes, requests_in, Accounts}
-use Rattle.usb_model.specs.Count.{most_requests, most_of_scan, store_left}
-use Rattle.usb_model.specs.History.{Event, joined}
+use Rattle.usb_model.specs.Count.{most_requests, store_left}
+use Rattle.usb_model.specs.History.{Event}
 use Rattle.usb_model.specs.Demand3 as Model
 use Rattle.usb_model.specs.Demand3.{Call, attaches, scans, checks, verdict, program, entry, Ended, finished, failed, Reached}
 use Rattle.usb_model.proofs.Keeps.{left-holds}
 use Rattle.usb_model.proofs.Onward.{requests-logged}
 use Rattle.usb_model.proofs.Entries.{root-attach-accounts, scan-accounts, port-check-accounts}
 use Rattle.usb_model.proofs.Demand3.{demand3, call-walks, attaches-is, scans-is, checks-is}
-use Rattle.lidrumak.specs.Calls.{promised, Made, left_by, actions_of, Calls, empty, refusal, ran, ScanBounded, Histories, Reports}
+use Rattle.lidrumak.specs.Calls.{promised, Made, left_by, actions_of, Calls, empty, refusal, ran, Histories, Reports}
 
 -- ---- whole actions
 
@@ -41,11 +40,6 @@ accepted-is : (c : Call) (made : Made c) → verdict c made.lends ≡ accepted �
 unfolding call
 accepted-is c made v = entry-is c made ∙ rw v refl
 
--- a refused call sends nothing
-refused-sends : (c : Call) (made : Made c) (r : Refusal) → verdict c made.lends ≡ refused r → made.reply.requests ≡ 0
-unfolding call
-refused-sends c made r v = ap (λ (l : Left). l.requests) (entry-is c made) ∙ rw v refl
-
 -- ---- a list of calls
 
 -- an answer that is none of −13 to −15 is that of a run that ended
@@ -65,22 +59,6 @@ reached (ran r c made e v n) =
     let whole = whole-actions made.lends made.bytes c v in
     rw (new, log) (Model.ran (reached r) c made.lends e made.bytes v d (actions_of c made.lends) whole)
 
--- ---- a scan's requests
-
-scan-sent : (s : List ℕ) → Model.ScanBounded s → ScanBounded s
-scan-sent s bound hub made e = go (verdict (scans hub) made.lends) refl
-  where
-    Sent : Type 0
-    Sent = made.reply.requests ≤ most_of_scan s (joined (actions_of (scans hub) made.lends) made.log made.lends.outcomes [])
-
-    go : (v : Verdict) → verdict (scans hub) made.lends ≡ v → Sent
-    go accepted v =
-        let is = accepted-is (scans hub) made v in
-        let whole = whole-actions made.lends made.bytes (scans hub) v in
-        rw (ap (λ (l : Left). l.requests) is, ap (λ (l : Left). l.log) is)
-        (bound hub made.lends e made.bytes v (actions_of (scans hub) made.lends) whole)
-    go (refused r) v = omega (arith, refused-sends (scans hub) made r v)
-
 pub histories : Histories
 histories s h r =
     let claim = demand3 s h (reached r) in (
@@ -88,7 +66,6 @@ histories s h r =
       λ speed made e.
           subst (λ (x : Left). x.requests ≤ most_requests (store_left (verdict (attaches speed) made.lends) made.lends x))
           (sym (entry-is (attaches speed) made)) (claim.1 speed made.lends e made.bytes),
-      scan-sent s claim.2,
     )
 
 -- ---- the count in a reply

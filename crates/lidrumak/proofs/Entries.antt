@@ -1,8 +1,7 @@
 -- The ways through the exported calls, over plain values. Assumes nothing.
 use mathlib.Core.Path.{◌≡◌, refl, sym, ap, ◌∙◌, subst}
 use mathlib.Core.List.{List}
-use mathlib.Core.Bool.{Bool}
-use Prim.Native.Nat.{ℕ, ◌≤◌, ◌<◌}
+use Prim.Native.Nat.{ℕ, ◌+◌, ◌≤◌, ◌<◌}
 use native.Mathlib.Omega.{arith}
 use lib.IntN.{ℤ}
 use lib.ListN.{length, get_or}
@@ -14,10 +13,9 @@ use Rattle.usb_types.specs.declared.types.Refusal.{Refusal}
 use Rattle.usb_types.specs.declared.types.Refusal.TheVariants.{BadArgument}
 use Rattle.usb_types.specs.declared.types.Answer.{Answer}
 use Rattle.usb_types.specs.declared.types.Answer.TheVariants.{Ok, Error, Stop}
-use Rattle.usb_store.specs.Layout.{used_field}
-use Rattle.usb_store.specs.Access.{byte_at}
-use Rattle.usb_sound.specs.Sound.{IsUsed, Sound}
-use Rattle.usb_unplug.specs.Unplug.{off_way}
+use Rattle.usb_store.specs.Layout.{place_count}
+use Rattle.usb_device.specs.Device.{first_unused}
+use Rattle.usb_sound.specs.Sound.{Sound}
 use Rattle.usb_model.specs.declared.Progress.{Progress}
 use Rattle.usb_model.specs.World.{World, M}
 use Rattle.usb_model.specs.Walk.{record_length, walk}
@@ -25,12 +23,10 @@ use Rattle.usb_model.specs.Entry as Model
 use Rattle.usb_model.specs.Entry.{Lent, start, leaves, answered, call, configuration_walk}
 use Rattle.usb_model.specs.Kept.{Bytes, Good, LentBytes}
 use Rattle.usb_model.proofs.Entries.{start-good}
-use Rattle.usb_model.proofs.Accepted.{HubAccepted}
 use Rattle.usb_transfer.specs.declared.log.Step.{Step}
 use Rattle.usb_transfer.specs.Runs.{here, Fit, gave, Ends}
 use Rattle.usb_walk.specs.Steps.{ends_with}
 use Rattle.usb_driver.specs.Bus.{Bus}
-use Rattle.usb_driver.proofs.Births.{off-most}
 use Rattle.usb_entry.specs.declared.reply.Reply.{Reply}
 use Rattle.usb_entry.specs.declared.verdict.Verdict.{Verdict}
 use Rattle.usb_entry.specs.declared.verdict.Verdict.TheVariants.{Accepted, Refused}
@@ -81,27 +77,11 @@ started l bytes r e =
       good = good;
     })
 
--- the hub of an accepted call stands in the tree
-pub on-bus : (l : Lent) → LentBytes l → {hub : ℕ} {bad : Bool} → HubAccepted l hub bad → {w : World} → w ≡ start l → Bus 1 hub w
-on-bus l bytes {hub} p e =
-    let s = started l bytes p.is-sound refl in
-    let u : IsUsed l.old hub = (p.inside, p.used) in
-    subst (Bus 1 hub) (sym e) (record {
-      fit = s.fit;
-      good = s.good;
-      root = p.is-sound.first hub u;
-      used = u;
-      reaches = p.is-sound.reaches hub u;
-      hub = λ _. p.is-hub;
-    })
-
--- 32 is enough for every place
-pub enough : {hub : ℕ} {w : World} → Bus 1 hub w → off_way w.store hub ≤ 32
-enough b = omega (arith, off-most b)
-
--- no root hub is attached
-pub unused-first : (l : Lent) → byte_at l.old 0 used_field ≡ 0 → {w : World} → w ≡ start l → byte_at w.store 0 used_field ≡ 0
-unused-first l u e = ap (λ (w : World). byte_at w.store 0 used_field) e ∙ u
+pub on-bus : (l : Lent) → LentBytes l → Sound l.old → {w : World} → w ≡ start l
+    → (place : ℕ) → place < place_count → place + 1 ≤ first_unused l.old → Bus place w
+on-bus l bytes r e place inside used =
+    let s = started l bytes r refl in
+    subst (Bus place) (sym e) (record { fit = s.fit; good = s.good; used = omega arith; inside = inside })
 
 -- ---- the walk alone
 

@@ -8,7 +8,7 @@ use Rattle.usb_store.specs.Layout.{empty_store}
 use Rattle.usb_model.specs.Programs.{end_of}
 use Rattle.usb_model.specs.Entry.{Lent, Left, accepted, start, root_attach, scan, port_check}
 use Rattle.usb_model.specs.Kept.{LentBytes, requests_in, Accounts}
-use Rattle.usb_model.specs.Count.{most_requests, most_of_scan, store_left}
+use Rattle.usb_model.specs.Count.{most_requests, store_left}
 use Rattle.usb_model.specs.History.{Event, joined}
 use Rattle.usb_model.specs.Demand3.{Call, attaches, scans, checks, verdict, program, Demand}
 use Rattle.usb_entry.specs.declared.reply.Reply.{Reply}
@@ -59,16 +59,9 @@ Bounded s =
     (speed : ℕ) (made : Made (attaches speed)) → made.lends.old ≡ s
     → made.reply.requests ≤ most_requests (store_left (verdict (attaches speed) made.lends) made.lends (left_by made))
 
--- document 02 e): "A scan sends at most 8·d + 904·h requests": the count in its reply, stopped or refused ones too. The events are
--- the scan's own.
-abbrev pub ScanBounded : List ℕ → Type 0
-ScanBounded s =
-    (hub : ℕ) (made : Made (scans hub)) → made.lends.old ≡ s
-    → made.reply.requests ≤ most_of_scan s (joined (actions_of (scans hub) made.lends) made.log made.lends.outcomes [])
-
 -- demand 3, one claim on the whole list
 abbrev pub Histories : Type 0
-Histories = (s : List ℕ) (h : List Event) → Calls s h → Demand s h × Bounded s × ScanBounded s
+Histories = (s : List ℕ) (h : List Event) → Calls s h → Demand s h × Bounded s
 
 -- "Requests sent are the actions of kind 1 that the call logged": of every root attach, scan and port check, refused or stopped ones too,
 -- `Accounts` says that the reply counts them; those of an accepted call are counted among the actions that join the history

@@ -1,81 +1,58 @@
 -- The ways to a new child, over plain values. Assumes nothing.
-use mathlib.Core.Path.{◌≡◌, refl, ◌∙◌}
-use mathlib.Core.Bool.{Bool, true, false, not, ◌&&◌, ◌||◌, false≢true}
+use mathlib.Core.Path.{◌≡◌, refl, sym, ◌∙◌}
+use mathlib.Core.Bool.{Bool, true, false, not, ◌&&◌, ◌||◌}
 use mathlib.Core.List.{List}
 use Prim.Native.Nat.{ℕ, ◌+◌, ◌≤◌, ◌<◌}
 use native.Mathlib.Omega.{arith}
 use lib.Dec.{eqb}
-use lib.ListN.{length}
+use lib.ListN.{get_or}
 use borrow.Author.Tests.{eq-eqb, ne_eqb}
 use Rattle.usb_types.specs.declared.types.ErrorCode.TheVariants.{BusFull}
 use Rattle.usb_types.specs.declared.types.Answer.TheVariants.{Ok, Error}
 use Rattle.usb_store.specs.Layout.{place_count, speed_field, port_number_field, parent_field, port_status_field, child_field}
-use Rattle.usb_store.specs.Access.{number_at, with_byte}
-use Rattle.usb_unplug.specs.Unplug.{unplugged}
+use Rattle.usb_store.specs.Access.{byte_at, number_at, with_byte}
+use Rattle.usb_device.specs.declared.hub.HubDevice.{HubDevice}
+use Rattle.usb_device.specs.Ports.{hub_at}
+use Rattle.usb_device.proofs.HubRecord.{status-at, child-at}
 use Rattle.usb_model.specs.declared.Progress.{Progress}
-use Rattle.usb_model.specs.Programs.{◌>>=◌, ◌>>◌, return, change}
-use Rattle.usb_model.specs.World.{World, M, put, unplug}
+use Rattle.usb_model.specs.Programs.{◌>>=◌, ◌>>◌}
+use Rattle.usb_model.specs.World.{World, M, put}
 use Rattle.usb_model.specs.Features.{port_connection, port_enable, bit}
 use Rattle.usb_model.specs.Hub.{speed_of, port_status}
 use Rattle.usb_transfer.specs.Runs.{here, Fit, Ends}
 use Rattle.usb_transfer.proofs.Steps.{got_number, put_then, put_last, put-bytes-fit}
 use Rattle.usb_enumerate.specs.Parts.{placed}
-use Rattle.usb_child.specs.Parts.{is_away, has_left, no_new_device, with_port, no_one, went_away}
+use Rattle.usb_child.specs.Parts.{no_new_device, with_port}
 
-module _ (status : ℕ) where
-  pub connected : bit port_connection status ≡ true → false ≡ is_away status
-  unfolding is_away
-  connected b = simp b
+module _ (status child : ℕ) where
+  pub has-child : (child ≡ 0 → ⊥) → true ≡ no_new_device status child
+  unfolding no_new_device
+  has-child c = go (bit port_connection status) (bit port_enable status)
+    where
+      go : (a b : Bool) → true ≡ (not a && not b) || not (eqb child 0)
+      go true b = simp (ne_eqb child 0 c)
+      go false true = simp (ne_eqb child 0 c)
+      go false false = refl
 
-  pub disconnected : bit port_connection status ≡ false → (enabled : Bool) → enabled ≡ bit port_enable status → not enabled ≡ is_away status
-  unfolding is_away
-  disconnected b enabled e = rw (b, ← e) refl
-
-  module _ (child : ℕ) where
-    pub none_left : child ≡ 0 → false ≡ has_left status child
-    unfolding has_left
-    none_left c = rw (eq-eqb child 0 c) (go (is_away status))
-      where
-        go : (b : Bool) → false ≡ b && not true
-        go true = refl
-        go false = refl
-
-    pub one_left : (child ≡ 0 → ⊥) → (away : Bool) → away ≡ is_away status → away ≡ has_left status child
-    unfolding has_left
-    one_left c away e = rw (ne_eqb child 0 c, ← e) (go away)
-      where
-        go : (b : Bool) → b ≡ b && not false
-        go true = refl
-        go false = refl
-
-    pub has-child : (child ≡ 0 → ⊥) → true ≡ no_new_device status child
+  module _ (c : child ≡ 0) where
+    pub connected : bit port_connection status ≡ true → false ≡ no_new_device status child
     unfolding no_new_device
-    has-child c = rw (ne_eqb child 0 c) (go (is_away status))
-      where
-        go : (b : Bool) → true ≡ b || not false
-        go true = refl
-        go false = refl
+    connected b = simp (b, eq-eqb child 0 c)
 
-    pub no-child : child ≡ 0 → (away : Bool) → away ≡ is_away status → away ≡ no_new_device status child
+    pub disconnected : bit port_connection status ≡ false → (enabled : Bool) → enabled ≡ bit port_enable status
+        → not enabled ≡ no_new_device status child
     unfolding no_new_device
-    no-child c away e = rw (eq-eqb child 0 c, ← e) (go away)
+    disconnected b enabled e = rw (b, eq-eqb child 0 c, ← e) (go enabled)
       where
-        go : (b : Bool) → b ≡ b || not true
+        go : (e : Bool) → not e ≡ (not false && not e) || not true
         go true = refl
         go false = refl
 
-    -- what left was there
-    pub left-some : has_left status child ≡ true → child ≡ 0 → ⊥
-    left-some e c = let z = none_left c ∙ e in false≢true z
-
--- the child and all beneath it leave the store, and nothing is to attach
-pub unplugs : {s l o : List ℕ} {at : Progress} (hub port : ℕ) (s' : List ℕ) → s' ≡ unplugged s hub port → length s' ≡ length s
-    → Fit (here s l o at) → Ends (unplug hub port >> return no_one) (here s l o at) Ok no_one (here s' l o (went_away at).at)
-unfolding unplug change return ◌>>◌
-unplugs hub port s' e n f = record {
-  is = rw e refl;
-  fit = record { whole = n ∙ f.whole; logged = f.logged; taken = f.taken; counted = f.counted };
-}
+-- the test of the hub's record is one of the store
+pub tested : (s : List ℕ) (hub port : ℕ) {ports : HubDevice} {b none : Bool} → port < 10 → ports ≡ hub_at s hub
+    → none ≡ no_new_device (get_or ports.port_status port 0) (get_or ports.children port 0) → none ≡ b
+    → no_new_device (number_at s hub (port_status_field port) 4) (byte_at s hub (child_field port)) ≡ b
+tested s hub port l e t n = rw (e, status-at s hub port l, child-at s hub port l) at (sym t ∙ n)
 
 pub port-set : (s s₁ s₂ s₃ : List ℕ) (hub port place status speed : ℕ)
     → status ≡ number_at s hub (port_status_field port) 4 → speed ≡ speed_of status → s₁ ≡ with_byte s place speed_field speed

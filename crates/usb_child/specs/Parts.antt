@@ -1,19 +1,17 @@
 -- The lines of `hub_port_connection_changed` up to the attach of the new device, and what the functions promise.
-use Rattle.std.specs.Prelude.{◌≡◌, Bool, true, false, not, ◌&&◌, ◌||◌, List, ℕ, ◌+◌, ◌<◌, eqb}
+use Rattle.std.specs.Prelude.{◌≡◌, Bool, not, ◌&&◌, ◌||◌, List, ℕ, ◌+◌, ◌<◌, eqb}
 use Rattle.usb_types.specs.declared.types.ErrorCode.TheVariants.{Incompatible}
-use Rattle.usb_types.specs.declared.types.Answer.TheVariants.{Ok}
 use Rattle.usb_store.specs.Layout.{place_count, speed_field, port_number_field, parent_field, port_status_field, child_field}
 use Rattle.usb_store.specs.Access.{number_at, with_byte}
 use Rattle.usb_model.specs.declared.Progress.{Progress}
-use Rattle.usb_model.specs.Programs.{if◌then◌else◌, ◌>>=◌, ◌>>◌, return, throw, when}
-use Rattle.usb_model.specs.World.{M, get, put, unplug, micro_delay, dwc_update_host_frame_interval}
+use Rattle.usb_model.specs.Programs.{◌>>=◌, ◌>>◌, return, throw, when}
+use Rattle.usb_model.specs.World.{M, get, put, micro_delay, dwc_update_host_frame_interval}
 use Rattle.usb_model.specs.Features.{port_connection, port_enable, c_port_connection, bit}
 use Rattle.usb_model.specs.Usbd.{usb_allocate_device}
 use Rattle.usb_model.specs.Hub.{hub_port_get_status, clear_port_feature, port_status, hub_port_reset2, speed_of}
 use Rattle.usb_transfer.specs.declared.log.Step.{Step}
 use Rattle.usb_transfer.specs.Runs.{IfOk, Lent, DoesSo}
 use Rattle.usb_child.specs.declared.NewChild.{NewChild}
-use Rattle.usb_child.specs.declared.Newcomer.{Newcomer}
 
 unfoldable pub start_change : ℕ → ℕ → M (Unit {0})
 start_change hub port = do
@@ -22,20 +20,15 @@ start_change hub port = do
   clear_port_feature hub c_port_connection port
   hub_port_get_status hub port
 
--- neither connected nor enabled
-unfoldable pub is_away : ℕ → Bool
-is_away status = not (bit port_connection status) && not (bit port_enable status)
-
--- the port's child is gone
-unfoldable pub has_left : ℕ → ℕ → Bool
-has_left status child = is_away status && not (eqb child 0)
-
 unfoldable pub no_new_device : ℕ → ℕ → Bool
-no_new_device status child = is_away status || not (eqb child 0)
+no_new_device status child = (not (bit port_connection status) && not (bit port_enable status)) || not (eqb child 0)
 
-unfoldable pub reset_changed : Bool → ℕ → ℕ → M (Unit {0})
-reset_changed refused hub port = do
-  when refused (throw Incompatible)
+unfoldable pub reset_changed : ℕ → ℕ → M (Unit {0})
+reset_changed hub port = do
+  start_change hub port
+  status ← port_status hub port
+  child ← get hub (child_field port)
+  when (no_new_device status child) (throw Incompatible)
   micro_delay 300000
   hub_port_reset2 hub port
 
@@ -53,37 +46,18 @@ place_child hub port place = do
   put place parent_field (hub + 1)
   put place port_number_field port
 
--- nothing to attach, and a device at a place
-abbrev pub no_one : Newcomer
-no_one = record { place = place_count; came = false }
-
-abbrev pub came_to : ℕ → Newcomer
-came_to place = record { place = place; came = true }
-
-unfoldable pub take_child : Bool → ℕ → ℕ → M Newcomer
-take_child refused hub port = do
-  reset_changed refused hub port
+unfoldable pub new_child : ℕ → ℕ → M ℕ
+new_child hub port = do
+  reset_changed hub port
   place ← usb_allocate_device
   place_child hub port place
-  return (came_to place)
+  return place
 
-unfoldable pub new_child : ℕ → ℕ → M Newcomer
-new_child hub port = do
-  start_change hub port
-  status ← port_status hub port
-  child ← get hub (child_field port)
-  if has_left status child
-      then (unplug hub port >> return no_one)
-      else take_child (no_new_device status child) hub port
-
+-- no place was given
 abbrev pub no_child : Step → NewChild
-no_child step = record { step = step; child = no_one }
+no_child step = record { step = step; place = place_count }
 
-abbrev pub went_away : Progress → Step
-went_away at = record { answer = Ok; at = record { logged = at.logged; taken = at.taken; requests = at.requests; unplugged = 1 } }
-
--- a place where the answer is Ok and a device came, else none
-abbrev pub GivesPlace : M Newcomer → Lent → Lent → Lent → Progress → NewChild → Type 0
+-- a place where the answer is Ok, else none
+abbrev pub GivesPlace : M ℕ → Lent → Lent → Lent → Progress → NewChild → Type 0
 GivesPlace m store log outcomes at r =
-    DoesSo (IfOk r.step.answer (r.child.came ≡ true → r.child.place < place_count) (r.child ≡ no_one))
-    m store log outcomes at r.step r.child
+    DoesSo (IfOk r.step.answer (r.place < place_count) (r.place ≡ place_count)) m store log outcomes at r.step r.place

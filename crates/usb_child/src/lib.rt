@@ -1,18 +1,20 @@
 // device/hub.rs, HubPortConnectionChanged up to the attach of the new device.
-ghost use Rattle.std.specs.Prelude.{◌≡◌, ◌<◌, length};
+ghost use Rattle.std.specs.Prelude.{◌≡◌, ◌<◌, length, get_or};
 ghost use Rattle.usb_store.specs.Layout.{place_count, store_length, ports_per_hub};
 ghost use Rattle.usb_transfer.specs.Runs.{Ready, Does};
-ghost use Rattle.usb_child.specs.Parts.{start_change, is_away, has_left, no_new_device, reset_changed, place_child, with_port, take_child, new_child, no_child, went_away, GivesPlace};
+ghost use Rattle.usb_child.specs.Parts.{start_change, no_new_device, reset_changed, place_child, with_port, new_child, no_child, GivesPlace};
 
+use usb_device::hub::{HubDevice, load_hub};
 use usb_enumerate::usb_allocate_device;
-use usb_hub::ports::{PORT_CONNECTION, PORT_ENABLE, has, port_child, port_status, speed_of};
+use usb_hub::ports::{
+    PORT_CONNECTION, PORT_ENABLE, child_of, has, port_status, speed_of, status_of,
+};
 use usb_hub::requests::{C_PORT_CONNECTION, hub_change_port_feature, hub_port_get_status};
 use usb_model::Progress;
 use usb_port::hub_port_reset2;
 use usb_store::{CHILDREN, PARENT, PLACES, PORT_NUMBER, SPEED, set_byte};
 use usb_transfer::log::{Step, dwc_update_host_frame_interval, micro_delay};
 use usb_types::types::{Answer, ErrorCode};
-use usb_unplug::unplug;
 
 // The change is read, cleared, and the status read again.
 fn start_change(
@@ -48,34 +50,19 @@ fn start_change(
     hub_port_get_status(store, log, outcomes, cleared_at, hub, port)
 }
 
-// The port is neither connected nor enabled.
-fn is_away(status: u32) -> bool
-    ensures { result ≡ is_away status }
+// No device is there, or the port has a child.
+fn no_new_device(ports: HubDevice, port: usize) -> bool
+    requires { port < ports_per_hub }
+    ensures { result ≡ no_new_device (get_or ports.port_status port 0) (get_or ports.children port 0) }
 {
+    if child_of(ports, port) != 0 {
+        return true;
+    }
+    let status = status_of(ports, port);
     if has(status, PORT_CONNECTION) {
         return false;
     }
     !has(status, PORT_ENABLE)
-}
-
-// The port's child is gone.
-fn has_left(status: u32, child: u8) -> bool
-    ensures { result ≡ has_left status child }
-{
-    if child == 0 {
-        return false;
-    }
-    is_away(status)
-}
-
-// No device is there, or the port has a child.
-fn no_new_device(status: u32, child: u8) -> bool
-    ensures { result ≡ no_new_device status child }
-{
-    if child != 0 {
-        return true;
-    }
-    is_away(status)
 }
 
 // A port at which a device came is reset.
@@ -86,18 +73,23 @@ fn reset_changed(
     at: Progress,
     hub: usize,
     port: usize,
-    refused: bool,
 ) -> Step
     requires { Ready store log outcomes at × (hub < place_count) × (port < ports_per_hub) }
-    ensures { Does (reset_changed refused hub port) store log outcomes at result }
+    ensures { Does (reset_changed hub port) store log outcomes at result }
 {
-    if refused {
+    let started = start_change(store, log, outcomes, at, hub, port);
+    let answer = started.answer;
+    let Answer::Ok = answer else {
+        return started;
+    };
+    let next = started.at;
+    if no_new_device(load_hub(store, hub), port) {
         return Step {
             answer: Answer::Error(ErrorCode::Incompatible),
-            at,
+            at: next,
         };
     }
-    let waited = micro_delay(log, at, 300000);
+    let waited = micro_delay(log, next, 300000);
     let answer = waited.answer;
     let Answer::Ok = answer else {
         return waited;
@@ -140,62 +132,35 @@ fn place_child(
     read
 }
 
-// A device that came has a place.
-#[derive(Drop)]
-pub struct Newcomer {
-    pub place: usize,
-    pub came: bool,
-}
-
-// None came where the answer is not Ok, and where the port's child was unplugged.
+// The place of a device that came; 32 where the answer is not Ok.
 #[derive(Drop)]
 pub struct NewChild {
     pub step: Step,
-    pub child: Newcomer,
+    pub place: usize,
 }
 
-// There is nothing to attach.
+// No place was taken, or none is left.
 fn no_child(step: Step) -> NewChild
     ensures { result ≡ no_child step }
 {
     NewChild {
         step,
-        child: Newcomer {
-            place: PLACES,
-            came: false,
-        },
+        place: PLACES,
     }
 }
 
-// That a device was unplugged is kept till the call ends.
-fn went_away(at: Progress) -> Step
-    ensures { result ≡ went_away at }
-{
-    Step {
-        answer: Answer::Ok,
-        at: Progress {
-            logged: at.logged,
-            taken: at.taken,
-            requests: at.requests,
-            unplugged: 1,
-        },
-    }
-}
-
-// A place for the device that came.
-fn take_child(
+pub fn new_child(
     store: &mut [u8],
     log: &mut [u8],
     outcomes: &[u8],
     at: Progress,
     hub: usize,
     port: usize,
-    refused: bool,
 ) -> NewChild
     requires { Ready store log outcomes at × (hub < place_count) × (port < ports_per_hub) }
-    ensures { GivesPlace (take_child refused hub port) store log outcomes at result }
+    ensures { GivesPlace (new_child hub port) store log outcomes at result }
 {
-    let reset = reset_changed(store, log, outcomes, at, hub, port, refused);
+    let reset = reset_changed(store, log, outcomes, at, hub, port);
     let answer = reset.answer;
     let Answer::Ok = answer else {
         return no_child(reset);
@@ -215,34 +180,6 @@ fn take_child(
     };
     NewChild {
         step: placed,
-        child: Newcomer { place, came: true },
+        place,
     }
-}
-
-// A connection change up to the attach: the port's child is unplugged, or a new one takes a place.
-pub fn new_child(
-    store: &mut [u8],
-    log: &mut [u8],
-    outcomes: &[u8],
-    at: Progress,
-    hub: usize,
-    port: usize,
-) -> NewChild
-    requires { Ready store log outcomes at × (hub < place_count) × (port < ports_per_hub) }
-    ensures { GivesPlace (new_child hub port) store log outcomes at result }
-{
-    let started = start_change(store, log, outcomes, at, hub, port);
-    let answer = started.answer;
-    let Answer::Ok = answer else {
-        return no_child(started);
-    };
-    let next = started.at;
-    let status = port_status(store, hub, port);
-    let child = port_child(store, hub, port);
-    if has_left(status, child) {
-        unplug(store, hub, port);
-        return no_child(went_away(next));
-    }
-    let refused = no_new_device(status, child);
-    take_child(store, log, outcomes, next, hub, port, refused)
 }

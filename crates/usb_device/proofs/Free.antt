@@ -61,7 +61,28 @@ first-before s p h = before s 32 0 p (omega arith) h
 pub first-unused : (s : List ℕ) → first_unused s < 32 → byte_at s (first_unused s) used_field ≡ 0
 first-unused s h = first-from s 32 0 (omega arith)
 
+-- where the first n places are used, the first unused one comes after them
+pub first-least : (s : List ℕ) (n : ℕ) → n ≤ 32 → ((p : ℕ) → p < n → byte_at s p used_field ≢ 0) → n ≤ first_unused s
+first-least s n h used = go (dec_lt (first_unused s) n)
+  where
+    go : Dec (first_unused s < n) → n ≤ first_unused s
+    go (yes l) = absurd (used (first_unused s) l (first-unused s (omega arith)))
+    go (no l) = omega arith
+
 -- ---- how many
+
+-- one place's part in the count
+one-most : (b : Bool) → cond {A = ℕ} b 1 0 ≤ 1
+one-most true = omega arith
+one-most false = omega arith
+
+below-most : (test : ℕ → Bool) (n : ℕ) → places_below test n ≤ n
+unfolding places_below
+below-most test zero = omega arith
+below-most test (suc n) = omega (arith, below-most test n, one-most (test n))
+
+pub free-most : (s : List ℕ) → free_places s ≤ 32
+free-most s = below-most (λ place. eqb (byte_at s place used_field) 0) 32
 
 -- a place passes a test or its contrary
 pub count-not : (test : ℕ → Bool) (n : ℕ) → places_below test n + places_below (λ p. not (test p)) n ≡ n

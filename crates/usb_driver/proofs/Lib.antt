@@ -2,5 +2,4 @@ pub mod Cycles
 pub mod Lines
 pub mod Goes
 pub mod Reaches
-pub mod Brings
 pub mod Births

@@ -2,21 +2,18 @@
 -- Assumes nothing.
 use mathlib.Core.Path.{refl}
 use mathlib.Core.Bool.{Bool, true, false, ◌&&◌}
-use Prim.Native.Nat.{ℕ, ◌+◌}
-use Rattle.usb_types.specs.declared.types.ErrorCode.TheVariants.{Incompatible}
+use Prim.Native.Nat.{ℕ}
 use Rattle.usb_types.specs.Descriptors.{is_hub_class}
-use Rattle.usb_store.specs.Layout.{interface_class_field, max_children_field, speed_field, parent_field, port_number_field, child_field}
-use Rattle.usb_model.specs.Programs.{if◌then◌else◌, ◌>>=◌, ◌>>◌, return, skip, throw, look, change, attempt, ignore, when, each}
-use Rattle.usb_model.specs.World.{M, get, put, unplug, micro_delay}
+use Rattle.usb_store.specs.Layout.{interface_class_field, max_children_field}
+use Rattle.usb_model.specs.Programs.{◌>>=◌, ◌>>◌, skip, look, attempt, ignore, when, each}
+use Rattle.usb_model.specs.World.{M, get}
 use Rattle.usb_model.specs.Features.{c_port_enable, bit}
-use Rattle.usb_model.specs.Usbd.{usb_allocate_device}
-use Rattle.usb_model.specs.Hub.{hub_port_get_status, port_status, speed_of, hub_port_reset2, hub_port_connection_changed, hub_check_connection, hub_attach}
+use Rattle.usb_model.specs.Hub.{hub_port_connection_changed, hub_check_connection, hub_attach}
 use Rattle.usb_model.specs.Attach.{usb_attach_device}
 use Rattle.usb_transfer.proofs.Regroups.{Same, same, back, join, bind-next, bind-bind, next-next, next-bind, given}
 use Rattle.usb_attach.specs.Parts.{default_state, addressed, described, enumerated}
 use Rattle.usb_hub_attach.specs.Parts.{hub_described, hub_powered, hub_ready}
-use Rattle.usb_child.specs.declared.Newcomer.{Newcomer}
-use Rattle.usb_child.specs.Parts.{start_change, is_away, has_left, no_new_device, reset_changed, place_child, no_one, take_child, new_child}
+use Rattle.usb_child.specs.Parts.{start_change, no_new_device, reset_changed, place_child, new_child}
 use Rattle.usb_check.specs.Parts.{clear_if, over_current, clear_changes, is_dropped, is_changed, start_check, end_check}
 
 nothing : (p f : ℕ) (rest : M (Unit {0})) → Same (ignore skip >> (get p f >>= (λ v. skip >> rest))) (skip >> rest)
@@ -30,17 +27,7 @@ unfolding when
 enabled true m p f c x rest = back (next-next _ _ _ (bind-next _ _ _ (λ v. same _)))
 enabled false m p f c x rest = nothing p f rest
 
--- one of two programs, and what comes after either
-either-bind : {A B : Type 0} (b : Bool) (m k : M A) (f : A → M B) {m' k' : M B} → Same (m >>= f) m' → Same (k >>= f) k'
-    → Same ((if b then m else k) >>= f) (if b then m' else k')
-either-bind true m k f x y = x
-either-bind false m k f x y = y
-
 module _ (attach : ℕ → M (Unit {0})) where
-  -- a device that came is attached
-  abbrev pub attach_newcomer : Newcomer → M (Unit {0})
-  attach_newcomer child = when child.came (attach child.place)
-
   -- ---- `usb_attach_device`
 
   pub attaches : (place : ℕ)
@@ -65,29 +52,13 @@ module _ (attach : ℕ → M (Unit {0})) where
 
   -- ---- `hub_port_connection_changed`
 
-  -- nothing is to attach where a child was unplugged
-  gone : (hub port : ℕ) → Same ((unplug hub port >> return no_one) >>= attach_newcomer) (unplug hub port)
-  unfolding unplug change when skip return ◌>>=◌ ◌>>◌
-  gone hub port = record { is = λ w. refl }
-
-  -- a device that came is attached
-  came : (refused : Bool) (hub port : ℕ)
-      → Same (take_child refused hub port >>= attach_newcomer)
-      (when refused (throw Incompatible) >> (micro_delay 300000 >> (hub_port_reset2 hub port >> (usb_allocate_device >>= (λ place.
-      put hub (child_field port) (place + 1) >> (hub_port_get_status hub port >> (port_status hub port >>= (λ status.
-      put place speed_field (speed_of status) >> (put place parent_field (hub + 1) >> (put place port_number_field port >> attach place))))))))))
-  unfolding take_child reset_changed place_child when
-  came refused hub port =
+  pub changes : (hub port : ℕ) → Same (new_child hub port >>= attach) (hub_port_connection_changed attach hub port)
+  unfolding hub_port_connection_changed new_child reset_changed start_change place_child no_new_device
+  changes hub port =
       join (next-bind _ _ _ (bind-bind _ _ _ (λ place. join (next-bind _ _ _ (given _ _))
       (next-next _ _ _ (next-next _ _ _ (bind-next _ _ _ (λ status. next-next _ _ _ (next-next _ _ _ (same _)))))))))
-      (next-next _ _ _ (next-next _ _ _ (same _)))
-
-  pub changes : (hub port : ℕ) → Same (new_child hub port >>= attach_newcomer) (hub_port_connection_changed attach hub port)
-  unfolding hub_port_connection_changed new_child start_change is_away has_left no_new_device
-  changes hub port =
-      join (next-bind _ _ _ (bind-bind _ _ _ (λ status. bind-bind _ _ _
-      (λ child. either-bind (has_left status child) _ _ _ (gone hub port) (came (no_new_device status child) hub port)))))
-      (next-next _ _ _ (next-next _ _ _ (next-next _ _ _ (same _))))
+      (join (next-next _ _ _ (bind-next _ _ _ (λ status. bind-next _ _ _ (λ child. next-next _ _ _ (next-next _ _ _ (same _))))))
+      (next-next _ _ _ (next-next _ _ _ (next-next _ _ _ (same _)))))
 
   -- ---- `hub_check_connection`
 

@@ -1,12 +1,12 @@
 // device/hub.rs: hub attach, port check and connection change, which call each other and attach.
 ghost use Rattle.std.specs.Prelude.{ℕ, ◌≤◌, ◌<◌};
 ghost use Rattle.usb_store.specs.Layout.{ports_per_hub};
-ghost use Rattle.usb_unplug.specs.Unplug.{off_way};
+ghost use Rattle.usb_device.specs.Device.{free_places};
 ghost use Rattle.usb_model.specs.Programs.{ignore, when};
 ghost use Rattle.usb_model.specs.Hub as Model;
 ghost use Rattle.usb_model.specs.Attach.{attach_below};
 ghost use Rattle.usb_transfer.specs.Runs.{Does};
-ghost use Rattle.usb_driver.specs.Bus.{OnBus, HubOnBus};
+ghost use Rattle.usb_driver.specs.Bus.{OnBus};
 
 use crate::usbd::usb_attach_device;
 use usb_check::{end_check, start_check};
@@ -27,7 +27,7 @@ pub fn hub_attach(
     hub: usize,
 ) -> Step
     requires { OnBus hub store log outcomes at }
-    ensures { (n : ℕ) → off_way store.old hub ≤ n → Does (Model.hub_attach (attach_below n) hub) store log outcomes at result }
+    ensures { (n : ℕ) → free_places store.old ≤ n → Does (Model.hub_attach (attach_below n) hub) store log outcomes at result }
 {
     let ready = ready_hub(store, log, outcomes, at, hub);
     let answer = ready.answer;
@@ -58,8 +58,8 @@ pub fn hub_check_connection(
     hub: usize,
     port: usize,
 ) -> Step
-    requires { HubOnBus hub store log outcomes at × (port < ports_per_hub) }
-    ensures { (n : ℕ) → off_way store.old hub ≤ n
+    requires { OnBus hub store log outcomes at × (port < ports_per_hub) }
+    ensures { (n : ℕ) → free_places store.old ≤ n
         → Does (Model.hub_check_connection (attach_below n) hub port) store log outcomes at result }
 {
     let found = start_check(store, log, outcomes, at, hub, port);
@@ -96,8 +96,8 @@ fn change_if(
     port: usize,
     due: bool,
 ) -> Step
-    requires { HubOnBus hub store log outcomes at × (port < ports_per_hub) }
-    ensures { (n : ℕ) → off_way store.old hub ≤ n
+    requires { OnBus hub store log outcomes at × (port < ports_per_hub) }
+    ensures { (n : ℕ) → free_places store.old ≤ n
         → Does (when due (ignore (Model.hub_port_connection_changed (attach_below n) hub port))) store log outcomes at result }
 {
     if due {
@@ -115,20 +115,16 @@ pub fn hub_port_connection_changed(
     hub: usize,
     port: usize,
 ) -> Step
-    requires { HubOnBus hub store log outcomes at × (port < ports_per_hub) }
-    ensures { (n : ℕ) → off_way store.old hub ≤ n
+    requires { OnBus hub store log outcomes at × (port < ports_per_hub) }
+    ensures { (n : ℕ) → free_places store.old ≤ n
         → Does (Model.hub_port_connection_changed (attach_below n) hub port) store log outcomes at result }
 {
     let born = new_child(store, log, outcomes, at, hub, port);
     let step = born.step;
-    let child = born.child;
     let answer = step.answer;
     let Answer::Ok = answer else {
         return step;
     };
-    if child.came {
-        let next = step.at;
-        return usb_attach_device(store, log, outcomes, next, child.place);
-    }
-    step
+    let next = step.at;
+    usb_attach_device(store, log, outcomes, next, born.place)
 }

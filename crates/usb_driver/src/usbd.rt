@@ -1,8 +1,6 @@
 // usbd.rs: the attach of a device, and of the root hub.
-ghost use Rattle.std.specs.Prelude.{◌≡◌, ℕ, ◌<◌};
-ghost use Rattle.usb_store.specs.Layout.{used_field};
-ghost use Rattle.usb_store.specs.Access.{byte_at};
-ghost use Rattle.usb_unplug.specs.Unplug.{off_way};
+ghost use Rattle.std.specs.Prelude.{ℕ, ◌<◌};
+ghost use Rattle.usb_device.specs.Device.{free_places};
 ghost use Rattle.usb_model.specs.Attach.{attach_below, usb_attach_root_hub};
 ghost use Rattle.usb_model.specs.Kept.{Good};
 ghost use Rattle.usb_transfer.specs.Runs.{here, Ready, Does};
@@ -27,7 +25,7 @@ pub fn usb_attach_device(
     place: usize,
 ) -> Step
     requires { OnBus place store log outcomes at }
-    ensures { (n : ℕ) → off_way store.old place < n → Does (attach_below n place) store log outcomes at result }
+    ensures { (n : ℕ) → free_places store.old < n → Does (attach_below n place) store log outcomes at result }
 {
     let described = enumerate(store, log, outcomes, at, place);
     let answer = described.answer;
@@ -49,7 +47,7 @@ pub fn usb_attach_root_hub(
     at: Progress,
     speed: u8,
 ) -> Step
-    requires { Ready store log outcomes at × Good (here store.old log.old outcomes.now at) × (byte_at store.old 0 used_field ≡ 0) }
+    requires { Ready store log outcomes at × Good (here store.old log.old outcomes.now at) }
     ensures { Does (usb_attach_root_hub speed) store log outcomes at result }
 {
     let place = usb_allocate_device(store);

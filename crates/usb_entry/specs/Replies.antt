@@ -1,5 +1,5 @@
 -- What a call is lent, hands back and leaves, as the model's entry points have it.
-use Rattle.std.specs.Prelude.{◌≡◌, Bool, false, List, ℕ, ℤ, length}
+use Rattle.std.specs.Prelude.{◌≡◌, Bool, List, ℕ, ℤ, length}
 use Rattle.usb_types.specs.Answers.{answer_number, refusal_number}
 use Rattle.usb_types.specs.declared.types.Refusal.{Refusal}
 use Rattle.usb_model.specs.declared.Progress.{Progress}
@@ -31,7 +31,7 @@ abbrev pub step_reply : Step → Reply
 step_reply step = record { answer = answer_number step.answer; requests = step.at.requests }
 
 abbrev pub nothing_done : Progress
-nothing_done = record { logged = 0; taken = 0; requests = 0; unplugged = 0 }
+nothing_done = record { logged = 0; taken = 0; requests = 0 }
 
 -- ---- verdicts
 

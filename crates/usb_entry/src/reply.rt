@@ -32,7 +32,6 @@ pub fn begin() -> Progress
         logged: 0,
         taken: 0,
         requests: 0,
-        unplugged: 0,
     }
 }
 

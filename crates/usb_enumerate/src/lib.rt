@@ -61,20 +61,13 @@ pub fn usb_read_device_descriptor(
     requires { Ready store log outcomes at × (place < place_count) }
     ensures { Does (Model.usb_read_device_descriptor place) store log outcomes at result }
 {
-    // Written field by field, as in `ok`: copied whole, it waits for the stores.
-    let handed = Progress {
-        logged: at.logged,
-        taken: at.taken,
-        requests: at.requests,
-        unplugged: at.unplugged,
-    };
     let speed = byte_at(store, place, SPEED);
     set_byte(store, place, MAX_PACKET_SIZE0, first_size(speed));
     if speed == HIGH {
-        let read = read_device_descriptor(store, log, outcomes, handed, place, 18);
+        let read = read_device_descriptor(store, log, outcomes, at, place, 18);
         return read.step;
     }
-    let first = read_device_descriptor(store, log, outcomes, handed, place, 8);
+    let first = read_device_descriptor(store, log, outcomes, at, place, 8);
     let step = first.step;
     let answer = step.answer;
     let Answer::Ok = answer else {
@@ -99,12 +92,6 @@ pub fn usb_set_address(
     requires { Ready store log outcomes at × (place < place_count) }
     ensures { Does (Model.usb_set_address place address) store log outcomes at result }
 {
-    let handed = Progress {
-        logged: at.logged,
-        taken: at.taken,
-        requests: at.requests,
-        unplugged: at.unplugged,
-    };
     if byte_at(store, place, STATUS) != DEFAULT {
         return Step {
             answer: Answer::Error(ErrorCode::Device),
@@ -113,7 +100,7 @@ pub fn usb_set_address(
     }
     let request = device_request(DEVICE, SET_ADDRESS, address as u16, 0, 0);
     let nowhere = Buffer { field: 0, room: 0 };
-    let sent = usb_control_message(store, log, outcomes, handed, place, 0, request, nowhere);
+    let sent = usb_control_message(store, log, outcomes, at, place, 0, request, nowhere);
     let step = sent.step;
     let answer = step.answer;
     let Answer::Ok = answer else {

@@ -48,7 +48,7 @@ receiving place asked buffer = do
 
 -- an outcome of n data bytes further
 abbrev pub passed : Progress → ℕ → Progress
-passed at n = record { logged = at.logged; taken = at.taken + (4 + n); requests = at.requests; unplugged = at.unplugged }
+passed at n = record { logged = at.logged; taken = at.taken + (4 + n); requests = at.requests }
 
 -- n bytes where the answer is Ok, else none
 abbrev pub length_of : Answer → ℕ → ℕ

@@ -68,7 +68,6 @@ fn handed_back(answer: Answer, at: Progress, n: usize) -> Transfer
             logged: at.logged,
             taken: at.taken,
             requests: at.requests,
-            unplugged: at.unplugged,
         },
     };
     let Answer::Ok = answer else {
@@ -99,7 +98,6 @@ fn take_outcome(
         logged: at.logged,
         taken: taken + (HEADER_LEN + size),
         requests: at.requests,
-        unplugged: at.unplugged,
     };
     handed_back(result_of(h.submit, h.error), next, n)
 }

@@ -15,6 +15,7 @@ use Rattle.usb_store.specs.Layout.{used_field, number_field, status_field, confi
 use Rattle.usb_store.specs.Access.{byte_at, bytes_at, with_byte}
 use Rattle.usb_store.specs.Values.{addressed_status, configured_status}
 use Rattle.usb_store.proofs.Fields.{Apart, bytes-length, bytes_most}
+use Rattle.usb_device.specs.Device.{first_unused}
 use Rattle.usb_store.proofs.Cells.{spot-apart}
 use Rattle.usb_model.specs.World.{M, get_bytes, get_number, put, put_bytes}
 use Rattle.usb_model.specs.Transfer.{Outcome, into, nowhere, read, usb_get_descriptor}
@@ -23,7 +24,6 @@ use Rattle.usb_model.specs.Usbd.{usb_set_configure, usb_configure}
 use Rattle.usb_model.specs.Kept.{Bytes}
 use Rattle.usb_model.specs.History.{Event, asked, acknowledged, sets_address, configures}
 use Rattle.usb_model.specs.Demand3.{Once, now, ago, ConfiguredWith, configured, Anything, ShownConfigured, Story, root, child}
-use Rattle.usb_model.specs.Demand3 as Belonging
 use Rattle.usb_model.proofs.Bytes.{bytes-at, byte-at}
 use Rattle.usb_model.proofs.Record.{walk-long, walk-bytes}
 use Rattle.usb_model.proofs.Functions.{small}
@@ -32,10 +32,9 @@ use Rattle.usb_model.proofs.Quiet.{Key, value, Keys, Quiet, quiet-order, keys-cl
 use Rattle.usb_model.proofs.Quiet as Quiet
 use Rattle.usb_model.proofs.Messages.{Sendable, Answered, Acknowledged, Unacknowledged, control-does, read-quiet}
 use Rattle.usb_model.proofs.Parts.{Still, Stilly, still-device, sends_none, sends-into, head-keys}
-use Rattle.usb_model.proofs.Invariant.{expected, since-reset, once-adds, back}
-use Rattle.usb_model.proofs.Stores.{Span}
-use Rattle.usb_model.proofs.Middle.{mild-aside, Origin, is-root, is-child, Spared, spared, spared-key, Mid, Fine, mid-still, mid-write, event-plain, mid-fine}
-use Rattle.usb_model.proofs.Addresses.{all_left, configuration-plain, AfterAddress, address-stable, configuration_of, configuration-event, configuration-addresses, configuration-aside, own-address, own-follows, own_same, own-other, At}
+use Rattle.usb_model.proofs.Invariant.{expected, once-adds, back, calm-aside}
+use Rattle.usb_model.proofs.Middle.{Origin, is-root, is-child, Spared, spared, spared-key, Mid, Fine, mid-still, mid-write, mid-event, mid-fine, count-hit, count-miss}
+use Rattle.usb_model.proofs.Addresses.{AfterAddress, address-stable, configuration_of, configuration-event, configuration-addresses, configuration-aside, own-address, own-follows, own_same, own-other, At}
 
 abbrev AfterConfigured : ℕ → ℕ → ℕ → ℕ → List Event → Type 0
 AfterConfigured x v hub port = Once (ConfiguredWith x v (AfterAddress x hub port))
@@ -63,18 +62,18 @@ head-sendable x = sends-into
     clear q g (spared k n) = spot-apart x configuration_descriptor_field 9 q g (omega arith) (key-low k) (λ e. away k (n e))
 
 -- a device that may become a hub, or is one
-pub record Settled {h₀ : List Event} (u : List ℕ) (n : Span) (x : ℕ) (s : State h₀) : Type 0 where
-  pub is-fine : Fine u n s
+pub record Settled {h₀ : List Event} (H : ℕ → Type 0) (x : ℕ) (s : State h₀) : Type 0 where
+  pub is-fine : Fine H s
   pub number : byte_at (store s) x number_field ≡ x + 1
   pub used : byte_at (store s) x used_field ≡ 1
-  pub status : byte_at (store s) x status_field ≡ configured_status
+  pub first : x + 1 ≤ first_unused (store s)
 
-module _ {h₀ : List Event} (u : List ℕ) (n : Span) (x : ℕ) (inside : x < 32) where
+module _ {h₀ : List Event} (H : ℕ → Type 0) (x : ℕ) (inside : x < 32) where
   abbrev Ready : State h₀ → Type 0
-  Ready = At u n x inside addressed_status (x + 1)
+  Ready = At H x inside addressed_status (x + 1)
 
-  pub at-fine : (s : State h₀) → Ready s → Fine u n s
-  at-fine s m = mid-fine x (omega arith) refl (λ _. omega arith) (λ _. refl) m
+  pub at-fine : (s : State h₀) → Ready s → Fine H s
+  at-fine s m = mid-fine x (omega arith) refl m
 
   index-still : (v : ℕ) → v < 256 → Keeps {h₀ = h₀} Stilly (put x configuration_index_field v)
   index-still v l =
@@ -88,36 +87,36 @@ module _ {h₀ : List Event} (u : List ℕ) (n : Span) (x : ℕ) (inside : x < 3
 
     -- the SetConfiguration was acknowledged
     record Acked (st : ℕ) (s : State h₀) : Type 0 where
-      middle : Mid u n x (AfterConfigured x v) st (x + 1) 1 1 s
+      middle : Mid H x (AfterConfigured x v) st (x + 1) 1 1 s
       its-value : byte_at (store s) x configuration_value_field ≡ v
       told : Once (ConfiguredWith x v Anything) s.past
 
-    unset : (t : State h₀) → Unacknowledged Keys x (configuration_of v) nowhere Before (x + 1) t → Fine u n t
-    unset t y =
-        let o = y.outcome in
-        let a = y.answered in
-        let p = configuration-plain (x + 1) v o in
-        at-fine t (event-plain x (asked (x + 1) (configuration_of v) o) (configuration-aside x v o) p.0 p.1 p.2
-        (configuration-addresses (x + 1) (x + 1) v o) (λ q g k. a.keep q g (spared-key k)) a.past
-        (λ z. all_left (x + 1) (asked (x + 1) (configuration_of v) o)
-        (configuration-event (x + 1) (x + 1) v o ∙ own-address x (acknowledged o) ∙ y.failed) (a.pre.middle.configurings z))
+    unset : (t : State h₀) → Unacknowledged Keys x (configuration_of v) nowhere Before (x + 1) t → Fine H t
+    unset t u =
+        let o = u.outcome in
+        let a = u.answered in
+        at-fine t (mid-event x (asked (x + 1) (configuration_of v) o) (configuration-aside x v o) (λ q g k. a.keep q g (spared-key k)) a.past
+        (count-miss (sets_address (x + 1)) _ a.before.past (configuration-addresses (x + 1) (x + 1) v o) ∙ a.pre.middle.addressings)
+        (count-miss (configures (x + 1)) _ a.before.past
+        (configuration-event (x + 1) (x + 1) v o ∙ own-address x (acknowledged o) ∙ u.failed) ∙ a.pre.middle.configurings)
         (λ hub port r. ago r) a.pre.middle)
 
     is_set : {bytes : List ℕ} (t : State h₀) → Acknowledged Keys x (configuration_of v) nowhere Before (x + 1) bytes t → Acked addressed_status t
-    is_set t y =
-        let o = y.outcome in
-        let a = y.answered in
-        let p = configuration-plain (x + 1) v o in
+    is_set t u =
+        let o = u.outcome in
+        let a = u.answered in
         record {
           middle =
-              event-plain x (asked (x + 1) (configuration_of v) o) (configuration-aside x v o) p.0 p.1 p.2
-              (configuration-addresses (x + 1) (x + 1) v o) (λ q g k. a.keep q g (spared-key k)) a.past (λ z. absurd (omega arith))
-              (λ hub port r. now (configured r y.good)) a.pre.middle;
+              mid-event x (asked (x + 1) (configuration_of v) o) (configuration-aside x v o) (λ q g k. a.keep q g (spared-key k)) a.past
+              (count-miss (sets_address (x + 1)) _ a.before.past (configuration-addresses (x + 1) (x + 1) v o) ∙ a.pre.middle.addressings)
+              (count-hit (configures (x + 1)) _ a.before.past
+              (configuration-event (x + 1) (x + 1) v o ∙ own-address x (acknowledged o) ∙ u.good) ∙ ap suc a.pre.middle.configurings)
+              (λ hub port r. now (configured r u.good)) a.pre.middle;
           its-value = a.keep x configuration_value_field value ∙ a.pre.its-value;
-          told = subst (Once (ConfiguredWith x v Anything)) (sym a.past) (now (configured tt y.good));
+          told = subst (Once (ConfiguredWith x v Anything)) (sym a.past) (now (configured tt u.good));
         }
 
-    settle : (s : State h₀) → Acked configured_status s → Settled u n x s
+    settle : (s : State h₀) → Acked configured_status s → Settled H x s
     settle s a =
         let m = a.middle in
         let shown : ShownConfigured (store s) x = record { device = (inside, m.used); status = m.status } in
@@ -126,27 +125,22 @@ module _ {h₀ : List Event} (u : List ℕ) (n : Span) (x : ℕ) (inside : x < 3
             inv = back x m.but (record {
               fresh = λ e. absurd (omega (arith, e, m.used));
               plain = λ _. m.used;
-              ready = λ _. m.status;
+              once = m.addressings ∙ ap expected (sym m.status);
               numbered = λ e. absurd (e m.no-hub);
-              once = λ k j y. m.addressings k j y ∙ ap expected (sym m.status);
               story = λ _. tell m.origin;
-            }) (λ e y w z. Belonging.shown x refl shown)
-                (λ z y w.
-                let b = m.in_tree.only z y w in
-                record { hub = b.1.hub; port = b.1.port; place = x; is = b.1.is; stands = b.1.stands; status = omega (arith, m.status) })
-                (λ k j y l. m.in_tree.has refl k j y);
-            stay = m.stay;
+            }) (λ _. shown);
+            known = m.known;
           };
           number = m.number;
           used = m.used;
-          status = m.status;
+          first = m.first;
         }
       where
         tell : Origin (store s) x (AfterConfigured x v) s.past → Story (store s) x s.past
-        tell (is-root e _) = root e (subst (λ (b : ℕ). Once (ConfiguredWith x b Anything) s.past) (sym a.its-value) a.told)
+        tell (is-root e) = root e (subst (λ (b : ℕ). Once (ConfiguredWith x b Anything) s.past) (sym a.its-value) a.told)
         tell (is-child {hub} {port} t r) =
-            child t (subst (λ (b : ℕ). Once (ConfiguredWith x b (AfterAddress x hub port)) (since-reset hub port s.past)) (sym a.its-value) r)
-            (a.middle.addressings hub port t)
+            child t (subst (λ (b : ℕ). Once (ConfiguredWith x b (AfterAddress x hub port)) s.past) (sym a.its-value) r)
+            a.middle.addressings
 
     acked-still : {st : ℕ} (s t : State h₀) → Acked st s → Quiet Keys Still s t → Acked st t
     acked-still s t a r = record {
@@ -155,30 +149,30 @@ module _ {h₀ : List Event} (u : List ℕ) (n : Span) (x : ℕ) (inside : x < 3
       told = once-adds r.past a.told;
     }
 
-    index-put : Does (Acked addressed_status) (put x configuration_index_field v) (λ _. Acked addressed_status) (Fine u n)
+    index-put : Does (Acked addressed_status) (put x configuration_index_field v) (λ _. Acked addressed_status) (Fine H)
     unfolding put_bytes
     index-put = does-store (λ t. with_byte t x configuration_index_field v) (λ s a.
-        let w = own-follows u n x inside configuration_index_field v s (omega arith) (omega arith) small-value in
+        let w = own-follows H x inside configuration_index_field v s (omega arith) (omega arith) small-value in
         (w, acked-still s _ a (write-quiet Keys Still s x configuration_index_field (v ∷ []) 1 w (keys-clear (fourth (omega arith) (omega arith))) (omega arith))))
 
-    status-put : Does (Acked addressed_status) (put x status_field configured_status) (λ _. Settled u n x) (Fine u n)
+    status-put : Does (Acked addressed_status) (put x status_field configured_status) (λ _. Settled H x) (Fine H)
     unfolding put_bytes
     status-put = does-store (λ t. with_byte t x status_field configured_status) (λ s a.
-        let w = own-follows u n x inside status_field configured_status s (omega arith) (omega arith) (omega arith) in (
+        let w = own-follows H x inside status_field configured_status s (omega arith) (omega arith) (omega arith) in (
           w,
           settle _ (record {
             middle =
                 mid-write x configured_status (x + 1) status_field (configured_status ∷ []) w (omega arith) (omega arith) (inl (omega arith))
-                (own_same u n x inside status_field configured_status s (omega arith))
-                (own-other u n x inside status_field configured_status number_field s (omega arith) (omega arith) (inr (omega arith)) ∙ a.middle.number)
+                (own_same H x inside status_field configured_status s (omega arith))
+                (own-other H x inside status_field configured_status number_field s (omega arith) (omega arith) (inr (omega arith)) ∙ a.middle.number)
                 a.middle;
             its-value =
-                own-other u n x inside status_field configured_status configuration_value_field s (omega arith) (omega arith) (inl (omega arith)) ∙ a.its-value;
+                own-other H x inside status_field configured_status configuration_value_field s (omega arith) (omega arith) (inl (omega arith)) ∙ a.its-value;
             told = a.told;
           }),
         ))
 
-    set-configure-does : Does Before (usb_set_configure x v) (λ _. Settled u n x) (Fine u n)
+    set-configure-does : Does Before (usb_set_configure x v) (λ _. Settled H x) (Fine H)
     unfolding usb_set_configure
     set-configure-does =
         does-known _ x status_field addressed_status (λ s m. m.middle.status) (
@@ -193,11 +187,12 @@ module _ {h₀ : List Event} (u : List ℕ) (n : Span) (x : ℕ) (inside : x < 3
   head-ready : {o : Outcome} {t : State h₀} → Answered (Spared x) x head_of (into configuration_descriptor_field 9) Ready (x + 1) o t → Ready t
   head-ready {o} a =
       let y : Still (asked (x + 1) head_of o) = still-device 2 0 9 (x + 1) o in
-      event-plain x (asked (x + 1) head_of o) (mild-aside y.mild) y.reset y.mild.quiet y.mild.plain (y.mild.address (x + 1)) a.keep
-      a.past (λ z. all_left (x + 1) (asked (x + 1) head_of o) (y.mild.configuration (x + 1)) (a.pre.configurings z))
+      mid-event x (asked (x + 1) head_of o) (calm-aside y.calm) a.keep a.past
+      (count-miss (sets_address (x + 1)) _ a.before.past (y.calm.address (x + 1)) ∙ a.pre.addressings)
+      (count-miss (configures (x + 1)) _ a.before.past (y.calm.configuration (x + 1)) ∙ a.pre.configurings)
       (λ hub port r. ago r) a.pre
 
-  read_head : Does Ready (usb_get_descriptor x to_device 2 0 9 9 (into configuration_descriptor_field 9)) (λ _. Ready) (Fine u n)
+  read_head : Does Ready (usb_get_descriptor x to_device 2 0 9 9 (into configuration_descriptor_field 9)) (λ _. Ready) (Fine H)
   unfolding usb_get_descriptor read
   read_head =
       does-bind (does-map (λ s p. p) (λ _ t u. head-ready u.answered) (λ t u. at-fine t (head-ready u.answered))
@@ -205,7 +200,7 @@ module _ {h₀ : List Event} (u : List ℕ) (n : Span) (x : ℕ) (inside : x < 3
       λ bytes. does-next (does-unless (ltb (length bytes) 9) _ at-fine) (does-return bytes (λ s m. m.0))
 
   -- a part that keeps the place ready
-  keep-ready : {A : Type 0} {S : A → Type 0} {m : M A} → Gives {h₀ = h₀} Stilly S m → Does Ready m (λ a s. Ready s × S a) (Fine u n)
+  keep-ready : {A : Type 0} {S : A → Type 0} {m : M A} → Gives {h₀ = h₀} Stilly S m → Does Ready m (λ a s. Ready s × S a) (Fine H)
   keep-ready k = does-keep Ready k (λ s t m r. mid-still x address-stable r m) at-fine
 
   total-low : Gives {h₀ = h₀} Stilly (λ v. v < 65536) (get_number x total_length_field 2)
@@ -228,7 +223,7 @@ module _ {h₀ : List Event} (u : List ℕ) (n : Span) (x : ℕ) (inside : x < 3
       k-look (quiet-order Keys Still) _
       (λ s. (bytes-at (store s) x interfaces_field record_length s.good.store, bytes_most (store s) x interfaces_field record_length))
 
-  pub configure-does : Does Ready (usb_configure x 0) (λ _. Settled u n x) (Fine u n)
+  pub configure-does : Does Ready (usb_configure x 0) (λ _. Settled H x) (Fine H)
   unfolding usb_configure
   configure-does =
       does-known _ x status_field addressed_status (λ s m. m.status) (
@@ -256,5 +251,5 @@ module _ {h₀ : List Event} (u : List ℕ) (n : Span) (x : ℕ) (inside : x < 3
           → Keeps {h₀ = h₀} Stilly (put_bytes x interfaces_field (walk full kept).kept)
       walked-still full kept b c l =
           bytes-quiet Keys Still x interfaces_field record_length (walk full kept).kept (keys-clear (last (omega arith) (omega arith)))
-          (record { past = omega arith; apart = inr (omega arith); room = omega arith; low = inr (omega arith) }) (omega (arith, walk-long full kept))
+          (record { past = omega arith; room = omega arith; apart = inr (omega arith) }) (omega (arith, walk-long full kept))
           (walk-bytes full kept b c)

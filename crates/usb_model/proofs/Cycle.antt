@@ -1,99 +1,78 @@
 -- Attach, hub attach, port check and connection change, which call each other, and scan: they walk, and any number that bounds what
--- falls gives the same run: the places that are not on the way from a place up to place 0, that is 31 less its depth. Assumes nothing.
-use mathlib.Core.Path.{◌≡◌, refl, sym, ◌∙◌}
-use mathlib.Core.Bool.{Bool, true, false, not, ◌&&◌, ◌||◌, and-eq-true_iff}
-use mathlib.Core.Logic.{◌≢◌}
+-- falls gives the same run. For the attach the free places fall, for a scan the places above. Assumes nothing.
+use mathlib.Core.Bool.{not, ◌&&◌}
 use Prim.Native.Nat.{ℕ, zero, suc, ◌+◌, ◌-◌, ◌≤◌, ◌<◌}
 use native.Mathlib.Omega.{arith}
-use borrow.Author.Tests.{eqb-true, eqb-false, not-true, not-false}
+use borrow.Author.Tests.{not-true}
 use lib.Dec.{eqb}
-use Rattle.usb_store.specs.Layout.{place_count, used_field, number_field, speed_field, status_field, port_number_field, parent_field, hub_field, child_field}
-use Rattle.usb_store.specs.Access.{byte_at}
-use Rattle.usb_sound.specs.Sound.{IsChild, down}
-use Rattle.usb_sound.proofs.Depths.{depth_below}
-use Rattle.usb_unplug.proofs.Trees.{tree-forest}
+use Rattle.usb_store.specs.Layout.{place_count, number_field, speed_field, status_field, port_number_field, parent_field, hub_field, child_field}
+use Rattle.usb_device.specs.Device.{free_places}
+use Rattle.usb_device.proofs.Free.{first-most}
 use Rattle.usb_model.specs.World.{World, M}
-use Rattle.usb_model.specs.Features.{port_connection, port_enable, bit}
 use Rattle.usb_model.specs.Hub.{hub_port_connection_changed, hub_check_connection, hub_check_connection_device, hub_attach, is_ok, scan_port, hub_check_for_change}
 use Rattle.usb_model.specs.Attach.{usb_attach_device, attach_below, attach_new, usb_attach_root_hub}
-use Rattle.usb_model.specs.Kept.{Good}
-use Rattle.usb_model.proofs.Keeps.{Any, bind, next, throws, succeeds, attempts, ignores, whens, skips}
-use Rattle.usb_model.proofs.Stores.{upto, exactly, Stood}
-use Rattle.usb_model.proofs.Primitives.{gets, gets-most, gets-unplugged, puts, puts-most, waits, frames}
+use Rattle.usb_model.proofs.Keeps.{bind, next, throws, succeeds, attempts, ignores, whens, skips}
+use Rattle.usb_model.proofs.Primitives.{gets, gets-most, puts, puts-most, puts-child, waits, frames}
 use Rattle.usb_model.proofs.Functions.{middle, small, read-device-descriptor, set-address, configures, read-hub-descriptor, get-status, change-feature, power-on, port-get-status, port-status, reset2, port-of-child, speed-listed}
-use Rattle.usb_model.proofs.Walks.{Reach}
-use Rattle.usb_model.proofs.Pairs.{Same, Alike, one, bind₂, next₂, bind₁, next₁, attempts₂, ignores₂, whens₂, either₂, unless₂, eachs₂, reads₂, hub₂, unplug₂, take₂, root₂, loosely}
+use Rattle.usb_model.proofs.Pairs.{Alike, known, one, bind₂, next₂, bind₁, next₁, attempts₂, ignores₂, whens₂, eachs₂, child₂, allocate₂}
 
--- what the tests of a connection change say of the port's child
-pub some-child : (away : Bool) (child : ℕ) → (away && not (eqb child 0)) ≡ true → child ≢ 0
-some-child away child e = eqb-false child 0 (not-true _ ((and-eq-true_iff away (not (eqb child 0))).0 e).1)
+module _ {u : World} (attach attach' : ℕ → M (Unit {0}))
+    (attaches : (v : World) → free_places v.store < free_places u.store → (place : ℕ) → place < 32
+    → Alike v (place + 1) (attach place) (attach' place)) {n : ℕ} where
+  pub connection-changed : (hub port : ℕ) → hub < n → port < 10
+      → Alike u n (hub_port_connection_changed attach hub port) (hub_port_connection_changed attach' hub port)
+  unfolding hub_port_connection_changed
+  connection-changed hub port h l =
+      next₁ frames (next₁ (port-get-status hub port l) (next₁ (change-feature hub _ port _) (next₁ (port-get-status hub port l) (
+      bind₁ (port-status hub port) λ status _.
+      bind₁ (gets hub (child_field port)) λ child _.
+      next₁ (whens _ (throws _)) (next₁ (waits _) (next₁ (reset2 hub port l) (
+      allocate₂ λ v place less m inside.
+      next₁ (puts-child hub port _ l (omega arith) (omega arith)) (
+      next₁ (port-get-status hub port l) (
+      bind₁ (port-status hub port) λ after _.
+      next₁ (puts place speed_field _ (small speed_field (omega arith) (omega arith)) (omega (arith, speed-listed after))) (
+      next₁ (puts place parent_field _ (small parent_field (omega arith) (omega arith)) (omega arith)) (
+      next₁ (puts place port_number_field _ (small port_number_field (omega arith) (omega arith)) (omega arith)) (
+      attaches v less place inside))))))))))))
 
-pub no-child : (away : Bool) (child : ℕ) → (away || not (eqb child 0)) ≡ false → child ≡ 0
-no-child true child e = absurd (let z : ◌≡◌ {A = ℕ} 0 1 = cc in omega arith)
-no-child false child e = eqb-true child 0 (not-false _ e)
+  pub check-connection : (hub port : ℕ) → hub < n → port < 10
+      → Alike u n (hub_check_connection attach hub port) (hub_check_connection attach' hub port)
+  unfolding hub_check_connection
+  check-connection hub port h l =
+      bind₁ (port-status hub port) λ before _.
+      next₁ (port-get-status hub port l) (
+      bind₁ (port-status hub port) λ status _.
+      bind₁ (gets hub number_field) λ number _.
+      next₁ (whens _ (next (ignores (change-feature hub _ port _)) (ignores (power-on hub)))) (
+      next₂ (whens₂ _ λ _. next₁ (ignores (change-feature hub _ port _))
+      (bind₁ (gets hub (child_field port)) λ child _. whens₂ _ λ _. ignores₂ (connection-changed hub port h l))) (
+      next₂ (whens₂ _ λ _. ignores₂ (connection-changed hub port h l)) (
+      next₁ (whens _ (change-feature hub _ port _)) (one (whens _ (change-feature hub _ port _)))))))
 
--- the attaches of devices that stand deeper than d
-module _ (attach attach' : ℕ → M (Unit {0})) {d : ℕ}
-    (attaches : (v : World) (place : ℕ) → Stood v.store 0 place (suc d) → Alike v (upto (suc d)) (attach place) (attach' place)) where
-  module _ {u : World} (hub : ℕ) (h : Stood u.store 1 hub d) where
-    pub connection-changed : (port : ℕ) → port < 10
-        → Alike u (upto d) (hub_port_connection_changed attach hub port) (hub_port_connection_changed attach' hub port)
-    unfolding hub_port_connection_changed
-    connection-changed port l =
-        next₁ frames (next₁ (port-get-status hub port l) (next₁ (change-feature hub _ port _) (next₁ (port-get-status hub port l) (
-        bind₁ (port-status hub port) λ status _.
-        reads₂ hub (child_field port) d (omega arith) λ v child g still is.
-        let away = not (bit port_connection status) && not (bit port_enable status) in
-        let here = still.place 1 hub d (omega arith) h in
-        either₂ (away && not (eqb child 0))
-        (λ e. unplug₂ here l (λ z. some-child away child e (sym is ∙ z)))
-        (λ _. unless₂ (away || not (eqb child 0)) _ λ e.
-        next₁ (waits _) (next₁ (reset2 hub port l) (
-        take₂ here l (is ∙ no-child away child e) λ t place its new.
-        next₁ (port-get-status hub port l) (
-        bind₁ (port-status hub port) λ after _.
-        next₁ (puts place speed_field _ (small speed_field (omega arith) (omega arith)) (omega (arith, speed-listed after))) (
-        next₁ (puts place parent_field _ (small parent_field (omega arith) (omega arith)) (omega (arith, h.used.0))) (
-        next₁ (puts place port_number_field _ (small port_number_field (omega arith) (omega arith)) (omega arith)) (
-        attaches t place new)))))))))))
+  pub check-device : (hub child : ℕ) → hub < n
+      → Alike u n (hub_check_connection_device attach hub child) (hub_check_connection_device attach' hub child)
+  unfolding hub_check_connection_device
+  check-device hub child h =
+      bind₁ (port-of-child hub child) λ port l.
+      next₂ (check-connection hub port h l) (one (bind (gets hub (child_field port)) λ stands _. whens _ (throws _)))
 
-    pub check-connection : (port : ℕ) → port < 10
-        → Alike u (upto d) (hub_check_connection attach hub port) (hub_check_connection attach' hub port)
-    unfolding hub_check_connection
-    check-connection port l =
-        bind₁ (port-status hub port) λ before _.
-        next₁ (port-get-status hub port l) (
-        bind₁ (port-status hub port) λ status _.
-        bind₁ (gets hub number_field) λ number _.
-        next₁ (whens _ (next (ignores (change-feature hub _ port _)) (ignores (power-on hub)))) (
-        next₂ (whens₂ _ λ _. next₁ (ignores (change-feature hub _ port _))
-        (bind₁ (gets hub (child_field port)) λ child _. whens₂ _ λ _. ignores₂ (connection-changed port l))) (
-        next₂ (whens₂ _ λ _. ignores₂ (connection-changed port l)) (
-        next₁ (whens _ (change-feature hub _ port _)) (one (whens _ (change-feature hub _ port _)))))))
-
-    pub check-device : (child : ℕ) → Alike u (upto d) (hub_check_connection_device attach hub child) (hub_check_connection_device attach' hub child)
-    unfolding hub_check_connection_device
-    check-device child =
-        bind₁ (port-of-child hub child) λ port l.
-        next₂ (check-connection port l) (one (bind (gets hub (child_field port)) λ stands _. bind gets-unplugged λ away _. whens _ (throws _)))
-
-  pub hub-attach : {u : World} (hub : ℕ) → Stood u.store 0 hub d → Alike u (upto d) (hub_attach attach hub) (hub_attach attach' hub)
+  pub hub-attach : (hub : ℕ) → hub < n → Alike u n (hub_attach attach hub) (hub_attach attach' hub)
   unfolding hub_attach
   hub-attach hub h =
       bind₁ (gets hub _) λ count _. next₁ (whens _ (throws _)) (
       bind₁ (gets hub _) λ address _. next₁ (whens _ (throws _)) (
       bind₁ (gets hub _) λ attributes _. next₁ (whens _ (throws _)) (
-      hub₂ hub d (omega arith) h λ v i.
-      let inside = h.used.0 in
-      next₁ (puts-most hub _ inside (omega arith)) (
-      next₁ (read-hub-descriptor hub inside) (
+      next₁ (puts hub hub_field _ (small hub_field (omega arith) (omega arith)) (omega arith)) (
+      next₁ (puts-most hub _ h (omega arith)) (
+      next₁ (read-hub-descriptor hub) (
       bind₁ (gets hub _) λ ports _.
-      next₁ (puts-most hub _ inside (omega arith)) (
+      next₁ (puts-most hub _ h (omega arith)) (
       next₁ (get-status hub) (next₁ (power-on hub) (next₁ (get-status hub) (
       bind₁ (gets-most hub) λ children most.
-      eachs₂ children 0 (λ port l. ignores₂ (check-connection hub i port (omega (arith, most)))))))))))))
+      eachs₂ children 0 (λ port l. ignores₂ (check-connection hub port h (omega (arith, most))))))))))))))
 
-  pub attach-device : {u : World} (place : ℕ) → Stood u.store 0 place d → Alike u (upto d) (usb_attach_device attach place) (usb_attach_device attach' place)
+  pub attach-device : (place : ℕ) → place < n → Alike u n (usb_attach_device attach place) (usb_attach_device attach' place)
   unfolding usb_attach_device
   attach-device place h =
       bind₁ (gets place number_field) λ address a.
@@ -105,85 +84,67 @@ module _ (attach attach' : ℕ → M (Unit {0})) {d : ℕ}
       next₁ (succeeds result) (next₁ (read-device-descriptor place) (next₁ (configures place 0 (omega arith)) (
       bind₁ (gets place _) λ class _. whens₂ _ λ _. hub-attach place h)))))))
 
--- ---- the attach with one number
-
-pub attach-walks : (below : ℕ) {d : ℕ} (u : World) (place : ℕ) → Stood u.store 0 place d
-    → Alike u (upto d) (attach_below below place) (attach_below below place)
+-- the attach with one number
+pub attach-walks : (free : ℕ) (u : World) (place : ℕ) → place < 32 → Alike u (place + 1) (attach_below free place) (attach_below free place)
 unfolding attach_below
 attach-walks zero u place h = one skips
-attach-walks (suc below) u place h = attach-device (attach_below below) (attach_below below) (attach-walks below) place h
+attach-walks (suc free) u place h = attach-device (attach_below free) (attach_below free) (λ v _. attach-walks free v) place (omega arith)
 
--- a place of a good world stands at a depth below 32
-shallow : {w : World} {k p d : ℕ} → Good w → Stood w.store k p d → d < 32
-shallow {w} g x = depth_below w.store (tree-forest w.store g.tree) x.depth
-
--- at 32 there is nothing
-pub too-deep : {u : World} {d k p : ℕ} {m m' : M (Unit {0})} → Stood u.store k p d → 32 ≤ d → Alike u (upto d) m m'
-too-deep {u} {d} {k} {p} h l = record { run = λ w x. absurd (omega (arith, shallow x.good (x.still.place k p d (omega arith) h))) }
-
--- fuel of the attach: any two numbers that bound the places off the way give the same run
-pub attach-fuel : (a b : ℕ) {d : ℕ} → 32 ≤ d + a → 32 ≤ d + b → (u : World) (place : ℕ) → Stood u.store 0 place d
-    → Alike u (upto d) (attach_below a place) (attach_below b place)
+-- fuel of the attach: with fewer than k free places, any two numbers from k on give the same run
+pub attach-fuel : (k a b : ℕ) (u : World) → free_places u.store < k → (place : ℕ) → k ≤ a → k ≤ b → place < 32
+    → Alike u (place + 1) (attach_below a place) (attach_below b place)
 unfolding attach_below
-attach-fuel zero b x y u place h = too-deep h (omega arith)
-attach-fuel (suc a) zero x y u place h = too-deep h (omega arith)
-attach-fuel (suc a) (suc b) x y u place h =
-    attach-device (attach_below a) (attach_below b) (attach-fuel a b (omega arith) (omega arith)) place h
+attach-fuel zero a b u f place x y h = absurd (omega arith)
+attach-fuel (suc k) zero b u f place x y h = absurd (omega arith)
+attach-fuel (suc k) (suc a) zero u f place x y h = absurd (omega arith)
+attach-fuel (suc k) (suc a) (suc b) u f place x y h =
+    attach-device (attach_below a) (attach_below b) (λ v less p l. attach-fuel k a b v (omega arith) p (omega arith) (omega arith) l) place (omega arith)
 
 -- so the number of the entry points is enough: no larger one gives another run
-pub attach-enough : (b : ℕ) → place_count ≤ b → {d : ℕ} (u : World) (place : ℕ) → Stood u.store 0 place d
-    → Alike u (upto d) (attach_new place) (attach_below b place)
-attach-enough b l u place h = attach-fuel place_count b (omega arith) (omega arith) u place h
+pub attach-enough : (b : ℕ) → place_count ≤ b → (u : World) → free_places u.store < place_count → (place : ℕ) → place < place_count
+    → Alike u (place + 1) (attach_new place) (attach_below b place)
+attach-enough b l u f place h = attach-fuel place_count _ b u f place (omega arith) l h
 
-pub root-hub : (u : World) (speed : ℕ) → speed < 256 → Good u → byte_at u.store 0 used_field ≡ 0
-    → Same (Reach u (upto 0)) Any (usb_attach_root_hub speed u) (usb_attach_root_hub speed u)
+pub root-hub : (u : World) (speed : ℕ) → speed < 256 → Alike u 0 (usb_attach_root_hub speed) (usb_attach_root_hub speed)
 unfolding usb_attach_root_hub
-root-hub u speed h g empty = root₂ g empty λ v place new.
+root-hub u speed h = allocate₂ λ v place less l inside.
     next₁ (puts place speed_field speed (small speed_field (omega arith) (omega arith)) h) (
-    next₁ (puts place status_field _ (small status_field (omega arith) (omega arith)) (omega arith)) (attach-walks 32 v place new))
+    next₁ (puts place status_field _ (small status_field (omega arith) (omega arith)) (omega arith)) (attach-walks 32 v place inside))
 
 -- ---- scan
 
 module _ (free : ℕ) where
-  pub scan-port : {u : World} {below below' : ℕ → M (Unit {0})} {d : ℕ} (hub port : ℕ) → Stood u.store 1 hub d → port < 10
-      → ((v : World) (place : ℕ) → Stood v.store 1 place (suc d) → Alike v (upto (suc d)) (below place) (below' place))
-      → Alike u (upto d) (scan_port (attach_below free) below hub port) (scan_port (attach_below free) below' hub port)
+  pub scan-port : {u : World} {below below' : ℕ → M (Unit {0})} {n : ℕ} (hub port : ℕ) → hub < n → port < 10
+      → ((v : World) (place : ℕ) → hub < place → Alike v (place + 1) (below place) (below' place))
+      → Alike u n (scan_port (attach_below free) below hub port) (scan_port (attach_below free) below' hub port)
   unfolding scan_port
-  scan-port {u} {below} {below'} {d} hub port h l scans =
-      bind₂ (attempts₂ (check-connection (attach_below free) (attach_below free) (attach-walks free) hub h port l)) λ result _.
-      reads₂ hub (child_field port) d (omega arith) λ v child g still is.
-      reads₂ (child - 1) hub_field (suc d) (omega arith) λ w data' g' same its.
+  scan-port hub port h l scans =
+      bind₂ (attempts₂ (check-connection (attach_below free) (attach_below free) (λ v _. attach-walks free v) hub port h l)) λ result _.
+      child₂ hub port l λ child m x stands.
+      bind₁ (gets (child - 1) hub_field) λ data' _.
       whens₂ (is_ok result && not (eqb child 0) && not (eqb data' 0)) λ e.
-      let some = eqb-false child 0 (not-true _ (middle (is_ok result) (not (eqb data' 0)) e)) in
-      let hubs = eqb-false data' 0 (not-true _ ((and-eq-true_iff (is_ok result && not (eqb child 0)) _).0 e).1) in
-      let here = same.place 1 hub d (omega arith) (still.place 1 hub d (omega arith) h) in
-      let stands : IsChild w.store hub port (child - 1) = same.child refl hub port here.used.0 l ∙ omega (arith, is, some) in
-      loosely (scans w (child - 1) (record {
-        root = here.root;
-        used = g'.tree.children hub port (child - 1) here.used.0 l stands;
-        depth = down here.used.0 l stands here.depth;
-        hub = λ _ z. hubs (sym its ∙ z);
-      }))
+      let there = stands (not-true _ (middle (is_ok result) (not (eqb data' 0)) e)) in
+      known (omega (arith, there.1)) (λ v. scans v (child - 1) (omega (arith, there.0)))
 
-  pub check-for-change : (u : World) (below hub : ℕ) {d : ℕ} → Stood u.store 1 hub d
-      → Alike u (upto d) (hub_check_for_change (attach_below free) below hub) (hub_check_for_change (attach_below free) below hub)
+  pub check-for-change : (u : World) (above hub : ℕ)
+      → Alike u (hub + 1) (hub_check_for_change (attach_below free) above hub) (hub_check_for_change (attach_below free) above hub)
   unfolding hub_check_for_change
-  check-for-change u zero hub h = one skips
-  check-for-change u (suc below) hub h =
+  check-for-change u zero hub = one skips
+  check-for-change u (suc above) hub =
       bind₁ (gets-most hub) λ count most.
-      eachs₂ count 0 (λ port l. scan-port hub port h (omega (arith, most)) (λ v place i. check-for-change v below place i))
+      eachs₂ count 0 (λ port l. scan-port hub port (omega arith) (omega (arith, most)) (λ v place _. check-for-change v above place))
 
-  -- fuel of a scan: any two numbers that bound the places off the way give the same run
-  pub scan-fuel : (a b : ℕ) {d : ℕ} → 32 ≤ d + a → 32 ≤ d + b → (u : World) (hub : ℕ) → Stood u.store 1 hub d
-      → Alike u (upto d) (hub_check_for_change (attach_below free) a hub) (hub_check_for_change (attach_below free) b hub)
+  -- fuel of a scan: any two numbers that bound the places above the hub give the same run
+  pub scan-fuel : (u : World) (a b hub : ℕ) → 32 ≤ hub + a → 32 ≤ hub + b
+      → Alike u (hub + 1) (hub_check_for_change (attach_below free) a hub) (hub_check_for_change (attach_below free) b hub)
   unfolding hub_check_for_change
-  scan-fuel zero b x y u hub h = too-deep h (omega arith)
-  scan-fuel (suc a) zero x y u hub h = too-deep h (omega arith)
-  scan-fuel (suc a) (suc b) x y u hub h =
+  scan-fuel u zero b hub x y = record { run = λ w r. absurd (omega (arith, r.used, first-most w.store)) }
+  scan-fuel u (suc a) zero hub x y = record { run = λ w r. absurd (omega (arith, r.used, first-most w.store)) }
+  scan-fuel u (suc a) (suc b) hub x y =
       bind₁ (gets-most hub) λ count most.
-      eachs₂ count 0 (λ port l. scan-port hub port h (omega (arith, most)) (scan-fuel a b (omega arith) (omega arith)))
+      eachs₂ count 0 (λ port l. scan-port hub port (omega arith) (omega (arith, most)) (λ v place m. scan-fuel v a b place (omega arith) (omega arith)))
 
 -- so the number of a scan is enough
-pub scan-enough : (b : ℕ) → place_count ≤ b → {d : ℕ} (u : World) (hub : ℕ) → Stood u.store 1 hub d
-    → Alike u (upto d) (hub_check_for_change attach_new place_count hub) (hub_check_for_change attach_new b hub)
-scan-enough b l u hub h = scan-fuel place_count place_count b (omega arith) (omega arith) u hub h
+pub scan-enough : (u : World) (b hub : ℕ) → place_count ≤ hub + b
+    → Alike u (hub + 1) (hub_check_for_change attach_new place_count hub) (hub_check_for_change attach_new b hub)
+scan-enough u b hub l = scan-fuel place_count u place_count b hub (omega arith) l

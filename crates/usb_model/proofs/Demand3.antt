@@ -1,16 +1,15 @@
 -- Demand 3, proved. Assumes nothing.
 use mathlib.Core.Path.{◌≡◌, refl, sym, ap, ◌∙◌, subst}
-use mathlib.Core.Bool.{Bool, true, false}
-use mathlib.Core.Logic.{◌⊎◌, inl, inr, ⊎_elim, ◌≢◌}
-use mathlib.Core.List.{List, [], ◌∷◌}
+use mathlib.Core.Bool.{false}
+use mathlib.Core.Logic.{◌≢◌}
+use mathlib.Core.List.{List, []}
 use Prim.Native.Nat.{ℕ, ◌+◌, ◌*◌, ◌≤◌, ◌<◌}
 use native.Mathlib.Omega.{arith}
 use lib.ListN.{replicate}
-use Rattle.usb_store.specs.Layout.{store_length, used_field, status_field, hub_field, child_field}
-use Rattle.usb_store.specs.Values.{addressed_status, configured_status}
-use Rattle.usb_place.specs.Rules.{OneOf, statuses}
+use Rattle.usb_store.specs.Layout.{store_length, status_field, hub_field}
 use Rattle.usb_store.specs.Access.{byte_at, offset}
-use Rattle.usb_sound.specs.Sound.{IsUsed, Sound}
+use Rattle.usb_device.specs.Device.{first_unused}
+use Rattle.usb_sound.specs.Sound.{Sound}
 use Rattle.usb_sound.proofs.Decides.{empty-sound}
 use Rattle.usb_place.proofs.Tests.{replicate-zero}
 use Rattle.usb_model.specs.Programs.{Ran, end_of}
@@ -18,36 +17,27 @@ use Rattle.usb_model.specs.World.{World}
 use Rattle.usb_model.specs.Attach.{attach_new}
 use Rattle.usb_model.specs.Entry.{Lent, accepted, no_port, start, call, root_attach, scan, port_check}
 use Rattle.usb_model.specs.Kept.{LentBytes}
-use Rattle.usb_model.specs.History.{Event, Reading, read_log, joined, configures, resets, count, Stand, standing, tree_of}
-use Rattle.usb_model.specs.Demand3.{Call, attaches, scans, checks, verdict, program, entry, Ended, finished, failed, Reached, empty, refusal, ran, From, there, then, ShownConfigured, Stands, Has, Vacant, ShownAt, Belongs, Demand, Demand3}
-use Rattle.usb_model.proofs.Stores.{Span, upto, Stood, still-same}
-use Rattle.usb_model.proofs.Trees.{is_open, no-has, Ordered, none}
+use Rattle.usb_model.specs.History.{Event, Reading, read_log, joined, configures, count}
+use Rattle.usb_model.specs.Demand3.{Call, attaches, scans, checks, verdict, program, entry, Ended, finished, failed, Reached, empty, refusal, ran, ShownConfigured, Stands, Demand3}
 use Rattle.usb_model.proofs.Walks.{Reach, reach_here}
 use Rattle.usb_model.proofs.Cycle.{attach-walks, check-connection, root-hub, check-for-change}
-use Rattle.usb_model.proofs.Accepted.{port-inside, root-accepted, HubAccepted, hub-accepted}
+use Rattle.usb_model.proofs.Accepted.{port-inside, root-accepted, hub-accepted}
 use Rattle.usb_model.proofs.Entries.{start-good}
 use Rattle.usb_model.proofs.Bound.{root-attach-requests}
-use Rattle.usb_model.proofs.Scan.{scan-bounded}
 use Rattle.usb_model.proofs.Keeps.{Any, Left, left-holds}
 use Rattle.usb_model.proofs.SoundKept.{Stays, hub-place, check-connection-stays, check-for-change-stays, root-hub-stays}
 use Rattle.usb_model.proofs.Reading.{Reads}
-use Rattle.usb_model.proofs.Triples.{State, store, Leads, fine, bad, leads-map}
-use Rattle.usb_model.proofs.Invariant.{PlaceInv, Seen, Inv}
+use Rattle.usb_model.proofs.Triples.{State, store, Leads, fine, bad}
+use Rattle.usb_model.proofs.Invariant.{expected, PlaceInv}
 use Rattle.usb_model.proofs.Middle.{Fine}
 use Rattle.usb_model.proofs.Claims.{check-does}
-use Rattle.usb_model.proofs.Attaches.{attach-below-does, scan-does, root-attach-does}
+use Rattle.usb_model.proofs.Attaches.{attach-below-does, scan-does, root_does}
 
 -- what holds of a store and its history after a list of calls
 record Kept (s : List ℕ) (h : List Event) : Type 0 where
   sound : Sound s
   place : (p : ℕ) → p < 32 → PlaceInv s h p
-  belongs : (n : ℕ) (e : Event) (m : List Event) → From (e ∷ m) h → configures n e ≡ true → Belongs s n (e ∷ m) h
-  from-tree : (z : Stand) → Has z (tree_of h) → Seen s z
-  to-tree : (k j p : ℕ) → Stands s k j p → 2 < byte_at s p status_field → Has (standing (k + 1) (j + 1) (p + 1)) (tree_of h)
-  order : Ordered (tree_of h)
-  newest : is_open h ≡ true
-  vacant : (e : Event) (m : List Event) → From (e ∷ m) h → resets e ≡ true → Vacant e m
-  start : byte_at s 0 used_field ≡ 0 → count resets h ≡ 0
+  belongs : (n : ℕ) → 0 < count (configures n) h → (p : ℕ) × (n ≡ p + 1) × ShownConfigured s p
 
 -- ---- the empty store
 
@@ -55,29 +45,18 @@ empty-byte : (p f : ℕ) → byte_at (replicate store_length 0) p f ≡ 0
 unfolding byte_at
 empty-byte p f = replicate-zero store_length (offset p f)
 
-no-from : {e : Event} {m h : List Event} → From (e ∷ m) h → h ≡ [] → ⊥
-no-from there x = let z : ◌≡◌ {A = ℕ} 0 1 = cc in omega arith
-no-from (then y) x = let z : ◌≡◌ {A = ℕ} 0 1 = cc in omega arith
-
 empty-kept : Kept (replicate store_length 0) []
-unfolding count tree_of is_open
+unfolding count
 empty-kept = record {
   sound = empty-sound;
   place = λ p l. record {
     fresh = λ _. empty-byte p status_field;
     plain = λ n. absurd (n (empty-byte p hub_field));
-    ready = λ n. absurd (n (empty-byte p hub_field));
+    once = ap expected (sym (empty-byte p status_field));
     numbered = λ n. absurd (n (empty-byte p hub_field));
-    once = λ k j x. absurd (omega (arith, x.child, empty-byte k (child_field j)));
     story = λ e. absurd (omega (arith, e, empty-byte p status_field));
   };
-  belongs = λ n e m x y. absurd (no-from x refl);
-  from-tree = λ z x. absurd (no-has x refl);
-  to-tree = λ k j p x l. absurd (omega (arith, x.child, empty-byte k (child_field j)));
-  order = none;
-  newest = refl;
-  vacant = λ e m x y. absurd (no-from x refl);
-  start = λ _. refl;
+  belongs = λ n l. absurd (omega arith);
 }
 
 -- ---- the start and the end of a call
@@ -90,97 +69,81 @@ abbrev first-state : (lent : Lent) → LentBytes lent → Sound lent.old → (h 
 first-state lent bytes r h = record { world = start lent; past = h; good = start-good lent bytes r; reads = reads-start lent h }
 
 -- the state in which a run ended
-record EndState (h : List Event) (w : World) : Type 0 where
+record EndState (h : List Event) (H : ℕ → Type 0) (w : World) : Type 0 where
   state : State h
   is : state.world ≡ w
-  inv : Inv state
+  is-fine : Fine H state
 
-leads-ended : {h : List Event} {r : Ran World (Unit {0})} {w : World} → Leads {h₀ = h} (λ _. Inv) Inv r → Ended r w → EndState h w
-leads-ended (fine s f) finished = record { state = s; is = refl; inv = f }
-leads-ended (bad s f) failed = record { state = s; is = refl; inv = f }
+leads-ended : {h : List Event} {H : ℕ → Type 0} {r : Ran World (Unit {0})} {w : World} → Leads {h₀ = h} (λ _. Fine H) (Fine H) r → Ended r w
+    → EndState h H w
+leads-ended (fine s f) finished = record { state = s; is = refl; is-fine = f }
+leads-ended (bad s f) failed = record { state = s; is = refl; is-fine = f }
 
 left_ended : {r : Ran World (Unit {0})} {w : World} → Ended r w → end_of r ≡ w
 left_ended finished = refl
 left_ended failed = refl
 
 -- the history that a call joins is the one of the state in which it ended
-joined_is : {h : List Event} {w : World} (outcomes : List ℕ) (e : EndState h w) → w.outcomes ≡ outcomes → (n : ℕ)
+joined_is : {h : List Event} {H : ℕ → Type 0} {w : World} (outcomes : List ℕ) (e : EndState h H w) → w.outcomes ≡ outcomes → (n : ℕ)
     → w.at.logged ≡ 16 * n → joined n w.log outcomes h ≡ e.state.past
 unfolding joined
-joined_is {h} {w} outcomes e o n l =
+joined_is {h} {H} {w} outcomes e o n l =
     let r = subst (λ (v : World). Reads h v e.state.past) e.is e.state.reads in
     let same : n ≡ r.actions = omega (arith, l, r.logged) in
     rw (← o, same) (ap (λ (x : Reading). x.past) r.is)
 
--- the hub that a call names stands
-stood : {lent : Lent} {hub : ℕ} {bad : Bool} (x : HubAccepted lent hub bad) → (d : ℕ) × Stood lent.old 1 hub d
-stood {lent} {hub} x =
-    let used : IsUsed lent.old hub = (x.inside, x.used) in
-    let deep = x.is-sound.reaches hub used in
-    (deep.0, record { root = x.is-sound.first hub used; used = used; depth = deep.1; hub = λ _. x.is-hub })
-
 -- what a call does, from the first world on
 pub call-walks : (lent : Lent) → LentBytes lent → (c : Call) → verdict c lent ≡ accepted
-    → (d : ℕ) × Left (Reach (start lent) (upto d)) Any (program c (start lent))
+    → (m : ℕ) × Left (Reach (start lent) m) Any (program c (start lent))
 call-walks lent bytes (attaches speed) v =
     let x = root-accepted lent speed v in
-    (0, (root-hub (start lent) speed (omega (arith, x.low)) (start-good lent bytes x.is-sound) x.unused).walk)
+    let here = reach_here {n = 0} (start lent) (start-good lent bytes x.is-sound) (omega arith) in
+    (0, ((root-hub (start lent) speed (omega (arith, x.low))).run (start lent) here).walk)
 call-walks lent bytes (scans hub) v =
     let x = hub-accepted lent hub false v in
-    let y = stood x in
-    (y.0, ((check-for-change 32 (start lent) 32 hub y.1).run (start lent) (reach_here (start lent) (start-good lent bytes x.is-sound))).walk)
+    let here = reach_here (start lent) (start-good lent bytes x.is-sound) x.first in
+    (hub + 1, ((check-for-change 32 (start lent) 32 hub).run (start lent) here).walk)
 call-walks lent bytes (checks hub port) v =
     let x = hub-accepted lent hub (no_port port) v in
-    let y = stood x in
-    let walks = check-connection attach_new attach_new (attach-walks 32) hub y.1 port (port-inside port x.good) in
-    (y.0, (walks.run (start lent) (reach_here (start lent) (start-good lent bytes x.is-sound))).walk)
-
--- the invariant at the start of a call
-first-inv : (lent : Lent) (bytes : LentBytes lent) (r : Sound lent.old) {h : List Event} → Kept lent.old h → Inv (first-state lent bytes r h)
-first-inv lent bytes r k = record {
-  place = λ p m _. k.place p m;
-  belongs = λ n _. k.belongs n;
-  from-tree = λ z x _. k.from-tree z x;
-  to-tree = λ a b p x _. k.to-tree a b p x;
-  order = k.order;
-  newest = k.newest;
-  vacant = k.vacant;
-  start = k.start;
-}
-
--- and of a state in which it ended
-inv-kept : {h₀ : List Event} {s : State h₀} → Sound (store s) → Inv s → Kept (store s) s.past
-inv-kept r i = record {
-  sound = r;
-  place = λ p m. i.place p m (λ z. z);
-  belongs = λ n. i.belongs n (λ q e z. z);
-  from-tree = λ z x. i.from-tree z x (λ q e b. b);
-  to-tree = λ a b p x. i.to-tree a b p x (λ z. z);
-  order = i.order;
-  newest = i.newest;
-  vacant = i.vacant;
-  start = i.start;
-}
+    let here = reach_here (start lent) (start-good lent bytes x.is-sound) x.first in
+    let low = port-inside port x.good in
+    let walks = check-connection attach_new attach_new (λ v _. attach-walks 32 v) {n = hub + 1} hub port (omega arith) low in
+    (hub + 1, (walks.run (start lent) here).walk)
 
 module _ (lent : Lent) (bytes : LentBytes lent) {h : List Event} (k : Kept lent.old h) {w : World}
     (c : Call) (v : verdict c lent ≡ accepted) (ends : Ended (program c (start lent)) w) where
   -- a run that is claimed, walks and stays sound
-  kept-ran : {d : ℕ} → Leads {h₀ = h} (λ _. Inv) Inv (program c (start lent)) → Stays d (program c) (start lent)
+  kept-ran : {H : ℕ → Type 0} → Leads {h₀ = h} (λ _. Fine H) (Fine H) (program c (start lent)) → Stays (program c) (start lent)
       → (n : ℕ) → w.at.logged ≡ 16 * n
       → Kept w.store (joined n w.log lent.outcomes h)
-  kept-ran x z n l =
+  kept-ran {H} x z n l =
       let e = leads-ended x ends in
       let y = call-walks lent bytes c v in
-      let o = (subst (Reach (start lent) (upto y.0)) (left_ended ends) (left-holds y.1)).onward in
+      let o = (subst (Reach (start lent) y.0) (left_ended ends) (left-holds y.1)).onward in
+      let i = e.is-fine.inv in
       let past : e.state.past ≡ joined n w.log lent.outcomes h = sym (joined_is lent.outcomes e o.outcomes n l) in
       let same : store e.state ≡ w.store = ap (λ (v : World). v.store) e.is in
-      let sound : Sound (store e.state) = subst Sound (sym same) (subst (λ (v : World). Sound v.store) (left_ended ends) z.sound) in
-      subst (λ (q : List Event). Kept w.store q) past (subst (λ (v : List ℕ). Kept v e.state.past) same (inv-kept sound e.inv))
+      record {
+        sound = subst (λ (v : World). Sound v.store) (left_ended ends) z.sound;
+        place = λ p m. subst (λ (q : List Event). PlaceInv w.store q p) past
+            (subst (λ (v : List ℕ). PlaceInv v e.state.past p) same (i.place p m (λ b. b)));
+        belongs = λ a m.
+            let b = i.belongs a (λ q f t. t) (subst (λ (q : List Event). 0 < count (configures a) q) (sym past) m) in
+            (b.0, b.1, subst (λ (v : List ℕ). ShownConfigured v b.0) same b.2);
+      }
 
 -- ---- a list of calls
 
-fine-leads : {h : List Event} {u : List ℕ} {n : Span} {r : Ran World (Unit {0})} → Leads {h₀ = h} (λ _. Fine u n) (Fine u n) r → Leads {h₀ = h} (λ _. Inv) Inv r
-fine-leads x = leads-map x (λ _ t f. f.inv) (λ t f. f.inv)
+-- the hub that a call names is known
+hub-fine : (lent : Lent) (bytes : LentBytes lent) (r : Sound lent.old) {h : List Event} → Kept lent.old h → (hub : ℕ)
+    → byte_at lent.old hub hub_field ≢ 0 → hub + 1 ≤ first_unused lent.old → Fine (λ q. q ≡ hub) (first-state lent bytes r h)
+hub-fine lent bytes r k hub n l = record {
+  inv = record { place = λ p m _. k.place p m; belongs = λ a _ m. k.belongs a m };
+  known = record {
+    hubs = λ q e z. n (ap (λ (p : ℕ). byte_at lent.old p hub_field) (sym e) ∙ z);
+    first = λ q e. omega (arith, e, l);
+  };
+}
 
 kept-call : (lent : Lent) (bytes : LentBytes lent) {h : List Event} → Kept lent.old h → {w : World} (c : Call)
     → verdict c lent ≡ accepted → Ended (program c (start lent)) w → (n : ℕ) → w.at.logged ≡ 16 * n
@@ -189,24 +152,25 @@ kept-call lent bytes {h} k (attaches speed) v e n l =
     let x = root-accepted lent speed v in
     let s = first-state lent bytes x.is-sound h in
     kept-ran lent bytes k (attaches speed) v e
-    ((root-attach-does speed (omega (arith, x.low))).run s (record { inv = first-inv lent bytes x.is-sound k; unused = x.unused }))
+    ((root_does speed (omega (arith, x.low))).run s (record {
+      inv = record { place = λ p m _. k.place p m; belongs = λ a _ m. k.belongs a m };
+      unused = x.unused;
+    }))
     (root-hub-stays (start lent) x.is-sound x.unused speed x.low) n l
 kept-call lent bytes {h} k (scans hub) v e n l =
     let x = hub-accepted lent hub false v in
-    let y = stood x in
     let s = first-state lent bytes x.is-sound h in
     kept-ran lent bytes k (scans hub) v e
-    (fine-leads ((scan-does 32 32 hub y.1).run s (record { inv = first-inv lent bytes x.is-sound k; stay = still-same })))
-    (check-for-change-stays (start lent) x.is-sound (hub-place x.is-sound x.inside x.is-hub) y.1.depth 32 32) n l
+    ((scan-does 32 32 hub (λ q. q ≡ hub) refl x.inside).run s (hub-fine lent bytes x.is-sound k hub x.is-hub x.first))
+    (check-for-change-stays (start lent) x.is-sound (hub-place x.is-sound x.inside x.is-hub) 32 32) n l
 kept-call lent bytes {h} k (checks hub port) v e n l =
     let x = hub-accepted lent hub (no_port port) v in
-    let y = stood x in
     let s = first-state lent bytes x.is-sound h in
     let low = port-inside port x.good in
     kept-ran lent bytes k (checks hub port) v e
-    (fine-leads ((check-does hub port y.1 low attach_new (attach-below-does 32)).run s
-    (record { inv = first-inv lent bytes x.is-sound k; stay = still-same })))
-    (check-connection-stays (start lent) x.is-sound (hub-place x.is-sound x.inside x.is-hub) y.1.depth 32 port low) n l
+    ((check-does (λ q. q ≡ hub) hub port refl x.inside low attach_new (attach-below-does 32)).run s
+    (hub-fine lent bytes x.is-sound k hub x.is-hub x.first))
+    (check-connection-stays (start lent) x.is-sound (hub-place x.is-sound x.inside x.is-hub) 32 port low) n l
 
 kept : {s : List ℕ} {h : List Event} → Reached s h → Kept s h
 kept empty = empty-kept
@@ -226,42 +190,18 @@ single {s} r hub port hub' port' place x y =
     let b = c.once hub' port' y.device.0 y.low y.child in
     (a.0 ∙ sym b.0, a.1 ∙ sym b.1)
 
--- a status that is listed, and over 2
-late : (v : ℕ) → OneOf v statuses → 2 < v → (v ≡ addressed_status) ⊎ (v ≡ configured_status)
-late v o l = go o
-  where
-    go : OneOf v statuses → (v ≡ addressed_status) ⊎ (v ≡ configured_status)
-    go (inl e) = absurd (omega arith)
-    go (inr (inl e)) = absurd (omega arith)
-    go (inr (inr (inl e))) = absurd (omega arith)
-    go (inr (inr (inr (inl e)))) = inl e
-    go (inr (inr (inr (inr (inl e))))) = inr e
-    go (inr (inr (inr (inr (inr e))))) = absurd e
-
-shows : {s : List ℕ} → Sound s → {z : Stand} → Seen s z → ShownAt s z
-shows r x =
-    let u = r.children x.hub x.port x.place x.stands.device.0 x.stands.low x.stands.child in
-    record { hub = x.hub; port = x.port; place = x.place; is = x.is; stands = x.stands; status = late _ (r.status x.place u.0) x.status }
-
-pub demand : (s : List ℕ) (h : List Event) → Reached s h → Demand s h
-demand s h r =
-    let k = kept r in
-    record {
-      sound = k.sound;
-      story = λ p c. (k.place p c.device.0).story c.status;
-      single = single k.sound;
-      belongs = k.belongs;
-      vacant = k.vacant;
-      tree = λ z. (
-        λ x. shows k.sound (k.from-tree z x),
-        λ x. subst (λ (y : Stand). Has y (tree_of h)) (sym x.is)
-            (k.to-tree x.hub x.port x.place x.stands (⊎_elim (λ e. omega arith) (λ e. omega arith) x.status)),
-      );
-    }
-
 pub demand3 : Demand3
 unfolding root_attach
-demand3 s h r = (demand s h r, λ speed lent e b. root-attach-requests lent b speed, scan-bounded s)
+demand3 s h r =
+    let k = kept r in (
+      record {
+        sound = k.sound;
+        story = λ p c. (k.place p c.device.0).story c.status;
+        single = single k.sound;
+        belongs = k.belongs;
+      },
+      λ speed lent e b. root-attach-requests lent b speed,
+    )
 
 -- ---- what the list's calls leave is what the entry points leave
 

@@ -1,13 +1,14 @@
 -- Every call leaves what `Accounts` says, refused or not. Assumes nothing.
 use mathlib.Core.Path.{◌≡◌, refl, sym, ◌∙◌}
 use mathlib.Core.Bool.{Bool, true, false, cond, not, ◌||◌}
+use mathlib.Core.Logic.{◌≢◌}
 use mathlib.Core.List.{List}
 use Prim.Native.Nat.{ℕ, ◌+◌, ◌≤◌, ◌<◌}
 use native.Mathlib.Omega.{arith}
 use native.Mathlib.Decide.{dec_lt}
 use lib.Dec.{eqb, ltb}
 use lib.IntN.{ℤ}
-use lib.ListN.{length}
+use lib.ListN.{length, get_or-eq_default}
 use Rattle.usb_types.specs.Numbers.{minus}
 use Rattle.usb_types.specs.Answers.{error_number, halt_number, answer_number, refusal_number}
 use Rattle.usb_types.specs.declared.types.ErrorCode.{ErrorCode}
@@ -18,20 +19,19 @@ use Rattle.usb_types.specs.declared.types.Answer.{Answer}
 use Rattle.usb_types.specs.declared.types.Answer.TheVariants.{Ok, Error, Stop}
 use Rattle.usb_types.specs.declared.types.Refusal.{Refusal}
 use Rattle.usb_types.specs.declared.types.Refusal.TheVariants.{BadArgument, StoreDamaged, AlreadyAttached, RootSpeed}
-use Rattle.usb_store.specs.Layout.{max_children_field}
+use Rattle.usb_store.specs.Layout.{store_length, child_field, max_children_field}
 use Rattle.usb_store.specs.Access.{byte_at}
-use Rattle.usb_sound.specs.Sound.{IsUsed, Sound}
-use Rattle.usb_unplug.proofs.Trees.{rooted}
+use Rattle.usb_sound.specs.Sound.{Sound}
+use Rattle.usb_sound.proofs.Hubs.{child-below, used-leads}
 use Rattle.usb_model.specs.Programs.{Ran}
 use Rattle.usb_model.specs.World.{World, M}
 use Rattle.usb_model.specs.Walk.{record_length, walk}
 use Rattle.usb_model.specs.Attach.{attach_new, usb_attach_root_hub}
 use Rattle.usb_model.specs.Entry.{Lent, Verdict, accepted, refused, is_unused, no_port, root_verdict, hub_verdict, start, leaves, answered, call, root_attach, scan, port_check, child_reset, child_check, retried_reset, connection_change, configuration_walk}
-use Rattle.usb_model.specs.Kept.{Bytes, kinds_in, Good, Onward, Listed, LentBytes, Accounts, WalkAccounts}
+use Rattle.usb_model.specs.Kept.{Bytes, kinds_in, Above, Good, Onward, Listed, LentBytes, Accounts, WalkAccounts}
 use Rattle.usb_model.proofs.Accepted.{port-inside, root-accepted, hub-accepted}
-use Rattle.usb_model.proofs.Keeps.{Any, Left, is-done, is-failed, is-halted, left-weaker}
+use Rattle.usb_model.proofs.Keeps.{Any, Left, is-done, is-failed, is-halted}
 use Rattle.usb_model.proofs.Onward.{long, log-length, later-kept, kinds-logged, requests-logged}
-use Rattle.usb_model.proofs.Stores.{Span, upto, Stood, still-less, outside}
 use Rattle.usb_model.proofs.Walks.{Reach, reach_here}
 use Rattle.usb_model.proofs.Record.{walk-long, walk-bytes}
 use Rattle.usb_model.proofs.Functions.{child-reset, reset}
@@ -39,6 +39,11 @@ use Rattle.usb_model.proofs.Pairs.{Alike, one}
 use Rattle.usb_model.proofs.Cycle.{attach-walks, connection-changed, check-connection, check-device, root-hub, check-for-change}
 
 -- ---- a sound store is good
+
+-- past the store there is nothing
+outside : (s : List ℕ) (h f : ℕ) → length s ≡ store_length → 32 ≤ h → byte_at s h f ≡ 0
+unfolding byte_at
+outside s h f whole l = get_or-eq_default s 0 (omega arith)
 
 module _ (lent : Lent) (bytes : LentBytes lent) (r : Sound lent.old) where
   pub start-good : Good (start lent)
@@ -50,12 +55,18 @@ module _ (lent : Lent) (bytes : LentBytes lent) (r : Sound lent.old) where
     log = bytes.log;
     outcomes = bytes.outcomes;
     most = λ h. most h (dec_lt h 32);
-    tree = rooted lent.old r;
+    child = λ h q l n. child h q l n (dec_lt h 32);
   }
     where
       most : (h : ℕ) → Dec (h < 32) → byte_at lent.old h max_children_field ≤ 10
       most h (yes l) = r.max-children h l
       most h (no l) = omega (arith, outside lent.old h max_children_field r.whole (omega arith))
+
+      child : (h q : ℕ) → q < 10 → byte_at lent.old h (child_field q) ≢ 0 → Dec (h < 32) → Above lent.old h q
+      child h q l n (yes m) =
+          let b = child-below lent.old r h q m l n in
+          record { above = omega (arith, b.above, n); used = omega (arith, used-leads lent.old r _ (b.inside, b.used), n) }
+      child h q l n (no m) = absurd (n (outside lent.old h (child_field q) r.whole (omega arith)))
 
 -- ---- answers of the table
 
@@ -109,14 +120,14 @@ module _ (lent : Lent) (bytes : LentBytes lent) where
     requests = requests-logged o refl g.logged refl;
   }
 
-  answered-of : {n : Span} {r : Ran World (Unit {0})} → length lent.new ≡ length lent.old → Left (Reach (start lent) n) Any r
+  answered-of : {n : ℕ} {r : Ran World (Unit {0})} → length lent.new ≡ length lent.old → Left (Reach (start lent) n) Any r
       → Accounts lent (answered r)
   answered-of e (is-done x q) = leaves_of (listed 0 (omega arith)) e x.onward x.good
   answered-of l (is-failed {e} x) = leaves_of (error-listed e) l x.onward x.good
   answered-of l (is-halted {h} x) = leaves_of (halt-listed h) l x.onward x.good
 
   -- a call that is refused, or runs
-  called : {n : Span} (v : Verdict) (m : M (Unit {0}))
+  called : {n : ℕ} (v : Verdict) (m : M (Unit {0}))
       → (v ≡ accepted → (length lent.new ≡ length lent.old) × Left (Reach (start lent) n) Any (m (start lent)))
       → Accounts lent (call lent v m)
   unfolding call kinds_in
@@ -136,60 +147,51 @@ module _ (lent : Lent) (bytes : LentBytes lent) where
 
 -- ---- the entry points
 
-shallower : {u w : World} {n : Span} → Reach u n w → Reach u (upto 0) w
-shallower r = record { onward = r.onward; good = r.good; still = still-less (omega arith) r.still }
-
 module _ (lent : Lent) (bytes : LentBytes lent) where
-  -- an entry that names a hub: its program walks where the hub stands, and the other arguments are good
-  of-hub : (hub : ℕ) (bad : Bool) (m : M (Unit {0}))
-      → (bad ≡ false → (d : ℕ) → Stood lent.old 1 hub d → Alike (start lent) (upto d) m m)
+  -- an entry that names a hub: its program walks where the hub is known, and the other arguments are good
+  of-hub : (hub : ℕ) (bad : Bool) (m : M (Unit {0})) → (bad ≡ false → Alike (start lent) (hub + 1) m m)
       → Accounts lent (call lent (hub_verdict lent hub bad) m)
-  of-hub hub bad m h = called lent bytes {n = upto 0} _ m (λ e.
+  of-hub hub bad m h = called lent bytes _ m (λ e.
       let x = hub-accepted lent hub bad e in
-      let i : IsUsed lent.old hub = (x.inside, x.used) in
-      let deep = x.is-sound.reaches hub i in
-      let stood : Stood lent.old 1 hub deep.0 = record { root = x.is-sound.first hub i; used = i; depth = deep.1; hub = λ _. x.is-hub } in (
-        x.lengths,
-        left-weaker (λ v r. shallower r)
-            ((h x.good deep.0 stood).run (start lent) (reach_here (start lent) (start-good lent bytes x.is-sound))).walk,
-      ))
+      (x.lengths, ((h x.good).run (start lent) (reach_here (start lent) (start-good lent bytes x.is-sound) x.first)).walk))
 
   pub root-attach-accounts : (speed : ℕ) → Accounts lent (root_attach speed lent)
   unfolding root_attach
   root-attach-accounts speed = called lent bytes (root_verdict lent speed) (usb_attach_root_hub speed) (λ e.
       let x = root-accepted lent speed e in (
         x.lengths,
-        (root-hub (start lent) speed (omega (arith, x.low)) (start-good lent bytes x.is-sound) x.unused).walk,
+        ((root-hub (start lent) speed (omega (arith, x.low))).run (start lent)
+            (reach_here (start lent) (start-good lent bytes x.is-sound) (omega arith))).walk,
       ))
 
   pub scan-accounts : (hub : ℕ) → Accounts lent (scan hub lent)
   unfolding scan
-  scan-accounts hub = of-hub hub false _ (λ _ d i. check-for-change 32 (start lent) 32 hub i)
+  scan-accounts hub = of-hub hub false _ (λ _. check-for-change 32 (start lent) 32 hub)
 
   pub port-check-accounts : (hub port : ℕ) → Accounts lent (port_check hub port lent)
   unfolding port_check
   port-check-accounts hub port =
       of-hub hub (no_port port) _
-      (λ e d i. check-connection attach_new attach_new (attach-walks 32) hub i port (port-inside port e))
+      (λ e. check-connection attach_new attach_new (λ v _. attach-walks 32 v) hub port (omega arith) (port-inside port e))
 
   pub connection-change-accounts : (hub port : ℕ) → Accounts lent (connection_change hub port lent)
   unfolding connection_change
   connection-change-accounts hub port =
       of-hub hub (no_port port) _
-      (λ e d i. connection-changed attach_new attach_new (attach-walks 32) hub i port (port-inside port e))
+      (λ e. connection-changed attach_new attach_new (λ v _. attach-walks 32 v) hub port (omega arith) (port-inside port e))
 
   pub child-check-accounts : (hub child : ℕ) → Accounts lent (child_check hub child lent)
   unfolding child_check
   child-check-accounts hub child =
-      of-hub hub (is_unused lent child) _ (λ _ d i. check-device attach_new attach_new (attach-walks 32) hub i child)
+      of-hub hub (is_unused lent child) _ (λ _. check-device attach_new attach_new (λ v _. attach-walks 32 v) hub child (omega arith))
 
   pub child-reset-accounts : (hub child : ℕ) → Accounts lent (child_reset hub child lent)
   unfolding child_reset
-  child-reset-accounts hub child = of-hub hub (is_unused lent child) _ (λ _ d i. one (child-reset hub child))
+  child-reset-accounts hub child = of-hub hub (is_unused lent child) _ (λ _. one (child-reset hub child))
 
   pub retried-reset-accounts : (hub port : ℕ) → Accounts lent (retried_reset hub port lent)
   unfolding retried_reset
-  retried-reset-accounts hub port = of-hub hub (no_port port) _ (λ e d i. one (reset hub port (port-inside port e)))
+  retried-reset-accounts hub port = of-hub hub (no_port port) _ (λ e. one (reset hub port (port-inside port e)))
 
 pub walk-accounts : (descriptors kept : List ℕ) → Bytes descriptors → Bytes kept → WalkAccounts kept (configuration_walk descriptors kept)
 unfolding configuration_walk

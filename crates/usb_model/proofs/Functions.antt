@@ -1,7 +1,7 @@
 -- Every function of the driver walks. Assumes nothing.
 use mathlib.Core.Path.{◌≡◌, refl}
 use mathlib.Core.Bool.{Bool, true, false, cond, not, ◌&&◌, ◌||◌, and-eq-true_iff}
-use mathlib.Core.Logic.{inr, ◌≢◌}
+use mathlib.Core.Logic.{inr}
 use Prim.Native.Nat.{ℕ, zero, suc, ◌+◌, ◌*◌, ◌≤◌, ◌<◌}
 use native.Mathlib.Omega.{arith}
 use borrow.Author.Tests.{ltb-true, not-false}
@@ -16,11 +16,11 @@ use Rattle.usb_model.specs.Usbd.{read_device_descriptor, usb_read_device_descrip
 use Rattle.usb_model.specs.Hub.{hub_read_descriptor, hub_get_status, hub_change_port_feature, hub_power_on, hub_port_get_status, port_status, await_reset, hub_port_reset2, await_enabled, reset_tries, hub_port_reset, port_of_child, hub_child_reset, speed_of}
 use Rattle.usb_model.specs.Kept.{Bytes}
 use Rattle.usb_model.proofs.Bytes.{bytes-blank}
-use Rattle.usb_model.proofs.Stores.{Span, plain-low, Plain}
+use Rattle.usb_model.proofs.Stores.{plain-low, Plain}
 use Rattle.usb_model.proofs.Record.{walk-long, walk-bytes}
 use Rattle.usb_model.proofs.Keeps.{bind, next, gives, skips, throws, succeeds, ignores, either, whens, unless, eachs}
 use Rattle.usb_model.proofs.Walks.{Walks, Goes}
-use Rattle.usb_model.proofs.Primitives.{gets, gets-most, gets-number, gets-bytes, puts, puts-bytes, puts-hub, waits, Byte-codes, Fits, room-none, plain, messages, controls, reads}
+use Rattle.usb_model.proofs.Primitives.{gets, gets-most, gets-number, gets-bytes, puts, puts-bytes, waits, Byte-codes, Fits, room-none, plain, messages, controls, reads}
 
 -- the middle one of three tests
 pub middle : {b : Bool} (a c : Bool) → (a && b && c) ≡ true → b ≡ true
@@ -51,14 +51,14 @@ none : Fits nowhere
 none = room-none refl
 
 -- a buffer before the children
-low : (field room : ℕ) → 0 < field → (field + room ≤ 96) × (field ≤ 7 → field + room ≤ 7) → Fits (into field room)
+low : (field room : ℕ) → 0 < field → field + room ≤ 96 → Fits (into field room)
 low field room h l = plain (plain-low h l)
 
 -- a byte before the children
-pub small : (f : ℕ) → 0 < f → (f < 96) × (f ≢ 7) → Plain f 1
+pub small : (f : ℕ) → 0 < f → f < 96 → Plain f 1
 small f h l = plain-low h (omega arith)
 
-module _ {u : World} {n : Span} where
+module _ {u : World} {n : ℕ} where
   descriptors : (p recipient type index size minimum : ℕ) {b : Buffer} → recipient < 128 → Fits b
       → Walks u n (usb_get_descriptor p recipient type index size minimum b) Bytes
   unfolding usb_get_descriptor
@@ -110,19 +110,19 @@ module _ {u : World} {n : Span} where
       bind (descriptors p to_device 2 index total total (omega arith) none) λ full b.
       next (puts p configuration_index_field index (small configuration_index_field (omega arith) (omega arith)) h) (
       bind (gets-bytes p interfaces_field record_length) λ kept c.
-      next (puts-bytes p interfaces_field record_length _ (record { past = omega arith; apart = inr (omega arith); room = omega arith; low = inr (omega arith) })
+      next (puts-bytes p interfaces_field record_length _ (record { past = omega arith; room = omega arith; apart = inr (omega arith) })
       (omega (arith, walk-long full kept, c.1)) (walk-bytes full kept b c.0)) (
       next (succeeds _) (
       bind (gets p _) λ value v. set-configure p value v)))))
 
   -- ---- device/hub.rs
 
-  pub read-hub-descriptor : (p : ℕ) → p < 32 → Goes u n (hub_read_descriptor p)
+  pub read-hub-descriptor : (p : ℕ) → Goes u n (hub_read_descriptor p)
   unfolding hub_read_descriptor
-  read-hub-descriptor p inside =
+  read-hub-descriptor p =
       bind (descriptors p to_hub 41 0 2 2 (omega arith) none) λ header b.
       bind (gets p hub_field) λ data' _.
-      next (whens _ (next (puts-hub p _ inside (omega arith) (omega arith))
+      next (whens _ (next (puts p hub_field _ (small hub_field (omega arith) (omega arith)) (omega arith))
       (puts-bytes p hub_descriptor_field 9 _ (plain-low (omega arith) (omega arith)) (omega arith) (bytes-blank 9)))) (
       next (descriptors p to_hub 41 0 _ _ (omega arith) (low hub_descriptor_field 9 (omega arith) (omega arith))) skips)
 

@@ -61,11 +61,6 @@ module _ {S : Type 0} {P P' : S → Type 0} (weaker : (s : S) → P s → P' s) 
   whens-to true h = h refl
   whens-to false h = skips-to
 
-  pub either_to : {A : Type 0} {Q : A → Type 0} (b : Bool) {m k : Program S A} → (b ≡ true → Safe P P' m Q) → (b ≡ false → Safe P P' k Q)
-      → Safe P P' (if b then m else k) Q
-  either_to true h k = h refl
-  either_to false h k = k refl
-
   -- after a test that refuses
   pub unless-to : {B : Type 0} {Q : B → Type 0} (b : Bool) (e : ErrorCode) (k : Program S B) → (b ≡ false → Safe P P' k Q)
       → Safe P P' (when b (throw e) >> k) Q

@@ -14,7 +14,6 @@ pub mod Cycle
 pub mod Accepted
 pub mod Entries
 pub mod ScanAnswer
-pub mod ChildAnswer
 -- the bench table (specs/Bench.antt)
 pub mod Definitions
 pub mod Bench
@@ -29,17 +28,12 @@ pub mod SoundKept
 pub mod More
 pub mod Repeat
 -- the requests of a root attach (specs/Count.antt)
-pub mod Reading
-pub mod Past
 pub mod Costs
 pub mod Budget
 pub mod Asks
 pub mod Bound
-pub mod Pending
-pub mod Checks
-pub mod Scan
--- the history and the tree that it shows (specs/History.antt), and demand 3 (specs/Demand3.antt)
-pub mod Trees
+-- the history (specs/History.antt) and demand 3 (specs/Demand3.antt)
+pub mod Reading
 pub mod Triples
 pub mod Events
 pub mod Quiet
@@ -51,7 +45,6 @@ pub mod Middle
 pub mod Addresses
 pub mod Configurations
 pub mod Births
-pub mod Departures
 pub mod Claims
 pub mod Attaches
 pub mod Demand3

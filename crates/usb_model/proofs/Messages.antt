@@ -22,7 +22,7 @@ use Rattle.usb_model.specs.Transfer.{Outcome, Buffer, usb_control_message, contr
 use Rattle.usb_model.specs.Kept.{Bytes}
 use Rattle.usb_model.specs.History.{Event, asked, acknowledged}
 use Rattle.usb_model.proofs.Bytes.{bytes_le, bytes_take, byte-at}
-use Rattle.usb_model.proofs.Stores.{upto, plain-low, Follows, Plain, plain-less, none-follows, plain_follows}
+use Rattle.usb_model.proofs.Stores.{plain-low, Follows, Plain, plain-less, none-follows, plain_follows}
 use Rattle.usb_model.proofs.Primitives.{Byte-codes, request-bytes, packet-low, Fits, room-none, plain}
 use Rattle.usb_model.proofs.Reading.{TwoBytes}
 use Rattle.usb_model.proofs.Triples.{State, store, Does, does-pre, does-bind, does-next, does-return, does-get, does-succeed, does-store, does-given, does-known, leads-map, Gives, k-bind, k-next, k-get, k-when, k-throw, k-return}
@@ -59,13 +59,13 @@ head-other p f v r g t c l m k = byte-other t p f (little_endian 4 v) r g (part 
         ⊎_elim (λ (a : p * 1152 + 8 + 8 ≤ r * 1152 + g). inl (omega (arith, length-le 4 v)))
         (λ (a : r * 1152 + g + 1 ≤ p * 1152 + 8). inr (omega arith))
 
-head-follows : {h₀ : List Event} (p f v : ℕ) (s : State h₀) → 8 ≤ f → f ≤ 12 → Follows (upto 0) (store s) (with_number (store s) p f 4 v)
+head-follows : {h₀ : List Event} (p f v : ℕ) (s : State h₀) → 8 ≤ f → f ≤ 12 → Follows (store s) (with_number (store s) p f 4 v)
 head-follows p f v s l m =
     plain_follows s.good p f (little_endian 4 v) (plain-less (omega (arith, length-le 4 v)) (head_plain f l m)) (bytes_le 4 v)
 
 -- what is delivered goes to a buffer that fits
 buffer-follows : {h₀ : List Event} (p : ℕ) (b : Buffer) (vs : List ℕ) (s : State h₀) → Fits b → Bytes vs
-    → Follows (upto 0) (store s) (with_bytes (store s) p b.field (take b.room vs))
+    → Follows (store s) (with_bytes (store s) p b.field (take b.room vs))
 buffer-follows p b vs s (room-none e) c = rw e (none-follows s.good p b.field)
 buffer-follows p b vs s (plain r) c =
     plain_follows s.good p b.field (take b.room vs) (plain-less (omega (arith, length-take b.room vs)) r)

@@ -21,7 +21,7 @@ use Rattle.usb_types.specs.declared.request.UsbDeviceRequest.{UsbDeviceRequest}
 use Rattle.usb_types.specs.declared.pipe.UsbPipeAddress.{UsbPipeAddress}
 use Rattle.usb_store.proofs.Writes.{length-write}
 use Rattle.usb_model.specs.Programs.{if◌then◌else◌, Ran, done, fail, halt, on, ◌>>=◌, ◌>>◌, return, skip, throw, stop, look, change, succeed, caught, attempt, ignore, when, each, end_of}
-use Rattle.usb_model.specs.World.{World, M, get, get_bytes, get_number, put_bytes, unplug, has_unplugged, appended, counted, log_action, log_request, micro_delay, dwc_update_host_frame_interval}
+use Rattle.usb_model.specs.World.{World, M, get, get_bytes, get_number, put_bytes, appended, counted, log_action, log_request, micro_delay, dwc_update_host_frame_interval}
 use Rattle.usb_model.specs.Transfer.{Outcome, taken, size_of, outcome_of, take_outcome}
 use Rattle.usb_model.specs.Kept.{kinds_in, requests_in, is_kind, Onward}
 use Rattle.usb_model.proofs.Ways.{logged_world}
@@ -32,7 +32,7 @@ use Rattle.usb_model.proofs.Primitives.{log-onward}
 
 -- a world without its store and its outcomes
 abbrev log_of : World → World
-log_of w = record { store = []; log = w.log; outcomes = []; at = record { logged = w.at.logged; taken = 0; requests = w.at.requests; unplugged = 0 } }
+log_of w = record { store = []; log = w.log; outcomes = []; at = record { logged = w.at.logged; taken = 0; requests = w.at.requests } }
 
 pub record Grown (w v : World) : Type 0 where
   pub onward : Onward w v
@@ -175,14 +175,6 @@ module _ {more : List ℕ} where
   unfolding put_bytes change
   puts-bytes p f vs = record { grows = λ w. still; repeats = λ w. same }
 
-  pub unplugs : (hub port : ℕ) → Extends more (unplug hub port)
-  unfolding unplug change
-  unplugs hub port = record { grows = λ w. still; repeats = λ w. same }
-
-  pub gets-unplugged : Extends more has_unplugged
-  unfolding has_unplugged look
-  gets-unplugged = record { grows = λ w. still; repeats = λ w. same }
-
   -- ---- the log
 
   -- the test for room, and k after it
@@ -222,8 +214,7 @@ module _ {more : List ℕ} where
   unfolding log_request log_action ◌>>=◌ ◌>>◌ look when change kinds_in
   requests pipe q =
       let action : List ℕ = request_action pipe q in
-      roomy (λ r. on (on r (λ _. change (appended action))) (λ _. change counted)) (λ w. still) (λ w e. logged w action _ refl refl refl e) (λ w. same)
-      (λ w. same)
+      roomy (λ r. on (on r (λ _. change (appended action))) (λ _. change counted)) (λ w. still) (λ w e. logged w action _ refl refl refl e) (λ w. same) (λ w. same)
 
 -- ---- an outcome
 
@@ -312,8 +303,6 @@ pub ruleset Steps = (
   gets-bytes,
   gets-number,
   puts-bytes,
-  unplugs,
-  gets-unplugged,
   waits,
   frames,
   requests,

@@ -63,6 +63,8 @@ pub onward-same : (w : World) → Onward w w
 unfolding kinds_in
 onward-same w = record {
   store = refl;
+  free = omega arith;
+  first = omega arith;
   outcomes = refl;
   taken = omega arith;
   actions = 0;
@@ -77,6 +79,8 @@ onward-same w = record {
 pub onward-join : {u v w : World} → Onward u v → Onward v w → Onward u w
 onward-join {u} {v} {w} o p = record {
   store = p.store ∙ o.store;
+  free = omega (arith, o.free, p.free);
+  first = omega (arith, o.first, p.first);
   outcomes = p.outcomes ∙ o.outcomes;
   taken = omega (arith, o.taken, p.taken);
   actions = o.actions + p.actions;

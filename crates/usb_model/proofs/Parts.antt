@@ -1,24 +1,21 @@
 -- The parts of the driver that keep every key and add no event that the claim speaks of. Assumes nothing.
-use mathlib.Core.Path.{◌≡◌, refl, sym, ap, ◌∙◌, subst}
-use mathlib.Core.Bool.{Bool, true, false, cond, ◌&&◌, true≢false}
-use mathlib.Core.Logic.{◌≢◌}
+use mathlib.Core.Path.{◌≡◌, refl, ap, subst}
+use mathlib.Core.Bool.{Bool, true, false, cond}
+use mathlib.Core.Logic.{inl}
 use mathlib.Core.List.{List}
 use Prim.Native.Nat.{ℕ, ◌+◌, ◌*◌, ◌≤◌, ◌<◌, ◌^◌}
 use native.Mathlib.Omega.{arith}
-use native.Mathlib.Decide.{ℕ_discrete}
-use borrow.Author.Tests.{eq-eqb, ne_eqb}
 use lib.Dec.{eqb}
 use lib.ListN.{length}
 use Rattle.usb_types.specs.Requests.{get_status_code, clear_feature_code, set_feature_code, get_descriptor_code, to_device, to_hub, to_port, direction_of, device_request}
 use Rattle.usb_store.specs.Layout.{speed_field, hub_field, device_descriptor_field, max_packet_size0_field, hub_status_field, port_status_field, max_children_field, power_good_delay_field}
 use Rattle.usb_store.specs.Access.{byte_at}
 use Rattle.usb_model.specs.World.{get, micro_delay, dwc_update_host_frame_interval}
-use Rattle.usb_model.specs.Features.{port_power, c_port_connection}
+use Rattle.usb_model.specs.Features.{port_power}
 use Rattle.usb_model.specs.Transfer.{Outcome, into, nowhere, usb_get_descriptor}
 use Rattle.usb_model.specs.Usbd.{read_device_descriptor, usb_read_device_descriptor}
 use Rattle.usb_model.specs.Hub.{hub_get_status, hub_change_port_feature, clear_port_feature, set_port_feature, hub_power_on, hub_port_get_status, port_status}
-use Rattle.usb_model.specs.History.{Event, asked, waited, framed, is_request, sets_address, addresses, configures, clears_change, resets, resets_port, hub_of, number_of}
-use Rattle.usb_model.proofs.Stores.{plain-low}
+use Rattle.usb_model.specs.History.{Event, asked, waited, framed, is_request, sets_address, configures, resets}
 use Rattle.usb_model.proofs.Primitives.{room-none, plain}
 use Rattle.usb_model.proofs.Functions.{packet-small, codes, small}
 use Rattle.usb_model.proofs.Reading.{TwoBytes}
@@ -29,91 +26,57 @@ use Rattle.usb_model.proofs.Messages.{clear_none, Sendable, control-quiet, read-
 
 -- ---- kinds of events
 
--- sets no address, configures nothing, clears no connection change
-pub record Mild (e : Event) : Type 0 where
+-- sets no address and configures nothing
+pub record Calm (e : Event) : Type 0 where
   pub address : (n : ℕ) → sets_address n e ≡ false
-  pub plain : addresses e ≡ false
   pub configuration : (n : ℕ) → configures n e ≡ false
-  pub quiet : clears_change e ≡ false
 
 -- and resets no port
 pub record Still (e : Event) : Type 0 where
-  pub mild : Mild e
+  pub calm : Calm e
   pub reset : resets e ≡ false
 
--- or the one port of that number at most
-pub record Calm (a m : ℕ) (e : Event) : Type 0 where
-  pub mild : Mild e
-  pub resets-no : (b i : ℕ) → (b ≡ a → i ≡ m → ⊥) → resets_port b i e ≡ false
-  pub its-port : resets e ≡ true → (hub_of e ≡ a) × (number_of e ≡ m)
-
-pub no-port : (e : Event) → resets e ≡ false → (b i : ℕ) → resets_port b i e ≡ false
-unfolding resets_port
-no-port e r b i = rw r refl
-
-pub still-calm : {a m : ℕ} {e : Event} → Still e → Calm a m e
-still-calm {e = e} s = record {
-  mild = s.mild;
-  resets-no = λ b i _. no-port e s.reset b i;
-  its-port = λ r. absurd (true≢false (sym r ∙ s.reset));
-}
-
-abbrev still : {e : Event} → ((n : ℕ) → sets_address n e ≡ false) → addresses e ≡ false → ((n : ℕ) → configures n e ≡ false)
-    → clears_change e ≡ false → resets e ≡ false → Still e
-still a p b o c = record { mild = record { address = a; plain = p; configuration = b; quiet = o }; reset = c }
+abbrev still : {e : Event} → ((n : ℕ) → sets_address n e ≡ false) → ((n : ℕ) → configures n e ≡ false) → resets e ≡ false → Still e
+still a b c = record { calm = record { address = a; configuration = b }; reset = c }
 
 pub still-wait : (us : ℕ) → Still (waited us)
-unfolding sets_address addresses configures clears_change resets
-still-wait us = still (λ n. refl) refl (λ n. refl) refl refl
+unfolding sets_address configures resets
+still-wait us = still (λ n. refl) (λ n. refl) refl
 
 pub still-frame : Still framed
-unfolding sets_address addresses configures clears_change resets
-still-frame = still (λ n. refl) refl (λ n. refl) refl refl
+unfolding sets_address configures resets
+still-frame = still (λ n. refl) (λ n. refl) refl
 
 pub still-device : (type index size address : ℕ) (o : Outcome)
     → Still (asked address (device_request to_device get_descriptor_code (type * 256 + index) 0 size) o)
-unfolding sets_address addresses configures clears_change resets is_request device_request direction_of
-still-device type index size address o = still (λ n. refl) refl (λ n. refl) refl refl
+unfolding sets_address configures resets is_request device_request direction_of
+still-device type index size address o = still (λ n. refl) (λ n. refl) refl
 
 pub still-hub-descriptor : (value size address : ℕ) (o : Outcome) → Still (asked address (device_request to_hub get_descriptor_code value 0 size) o)
-unfolding sets_address addresses configures clears_change resets is_request device_request direction_of
-still-hub-descriptor value size address o = still (λ n. refl) refl (λ n. refl) refl refl
+unfolding sets_address configures resets is_request device_request direction_of
+still-hub-descriptor value size address o = still (λ n. refl) (λ n. refl) refl
 
 pub still-hub-status : (address : ℕ) (o : Outcome) → Still (asked address (device_request to_hub get_status_code 0 0 4) o)
-unfolding sets_address addresses configures clears_change resets is_request device_request direction_of
-still-hub-status address o = still (λ n. refl) refl (λ n. refl) refl refl
+unfolding sets_address configures resets is_request device_request direction_of
+still-hub-status address o = still (λ n. refl) (λ n. refl) refl
 
 pub still-port-status : (port address : ℕ) (o : Outcome) → Still (asked address (device_request to_port get_status_code 0 (port + 1) 4) o)
-unfolding sets_address addresses configures clears_change resets is_request device_request direction_of
-still-port-status port address o = still (λ n. refl) refl (λ n. refl) refl refl
+unfolding sets_address configures resets is_request device_request direction_of
+still-port-status port address o = still (λ n. refl) (λ n. refl) refl
 
-pub still-clear : (feature port address : ℕ) (o : Outcome) → feature ≢ c_port_connection
+pub still-clear : (feature port address : ℕ) (o : Outcome)
     → Still (asked address (device_request to_port clear_feature_code feature (port + 1) 0) o)
-unfolding sets_address addresses configures clears_change resets is_request device_request direction_of
-still-clear feature port address o x = still (λ n. refl) refl (λ n. refl) (rw (ne_eqb feature c_port_connection x) refl) refl
+unfolding sets_address configures resets is_request device_request direction_of
+still-clear feature port address o = still (λ n. refl) (λ n. refl) refl
 
 pub still-power : (port address : ℕ) (o : Outcome) → Still (asked address (device_request to_port set_feature_code port_power (port + 1) 0) o)
-unfolding sets_address addresses configures clears_change resets is_request device_request direction_of
-still-power port address o = still (λ n. refl) refl (λ n. refl) refl refl
+unfolding sets_address configures resets is_request device_request direction_of
+still-power port address o = still (λ n. refl) (λ n. refl) refl
 
 -- a reset is calm
-pub calm-reset : (port address : ℕ) (o : Outcome)
-    → Calm address (port + 1) (asked address (device_request to_port set_feature_code 4 (port + 1) 0) o)
-unfolding sets_address addresses configures clears_change resets resets_port hub_of number_of is_request device_request direction_of
-calm-reset port address o = record {
-  mild = record { address = λ n. refl; plain = refl; configuration = λ n. refl; quiet = refl };
-  resets-no = λ b i x. go b i x (ℕ_discrete address b);
-  its-port = λ r. (refl, refl);
-}
-  where
-    go : (b i : ℕ) → (b ≡ address → i ≡ port + 1 → ⊥) → Dec (address ≡ b) → (eqb address b && eqb (port + 1) i) ≡ false
-    go b i x (yes e) = rw (eq-eqb address b e, ne_eqb (port + 1) i (λ f. x (sym e) (sym f))) refl
-    go b i x (no n) = rw (ne_eqb address b n) refl
-
-pub is-reset : (port address : ℕ) (o : Outcome)
-    → resets_port address (port + 1) (asked address (device_request to_port set_feature_code 4 (port + 1) 0) o) ≡ true
-unfolding resets resets_port hub_of number_of is_request device_request direction_of
-is-reset port address o = rw (eq-eqb address address refl, eq-eqb (port + 1) (port + 1) refl) refl
+pub calm-reset : (port address : ℕ) (o : Outcome) → Calm (asked address (device_request to_port set_feature_code 4 (port + 1) 0) o)
+unfolding sets_address configures resets is_request device_request direction_of
+calm-reset port address o = record { address = λ n. refl; configuration = λ n. refl }
 
 -- ---- requests as they are sent
 
@@ -134,14 +97,13 @@ sends_none {K} {p} head recipient code value index r c v i size l = record {
 }
 
 -- a request that stores into a field before the children
-pub sends-into : {K : ℕ → ℕ → Type 0} {p : ℕ} → Clear K p 8 8 → (field room : ℕ) → Clear K p field room → 0 < field → (field + room ≤ 96) ×
-    (field ≤ 7 → field + room ≤ 7)
+pub sends-into : {K : ℕ → ℕ → Type 0} {p : ℕ} → Clear K p 8 8 → (field room : ℕ) → Clear K p field room → 0 < field → field + room ≤ 96
     → (recipient code value index size : ℕ) → recipient < 128 → code < 256 → value < 65536 → index < 65536 → size < 65536
     → Sendable K p (device_request recipient code value index size) (into field room)
 sends-into head field room clear past low recipient code value index size r c v i l = record {
   codes = codes recipient code value index size r c;
   two = two recipient code value index size v i l;
-  fits = plain (plain-low past low);
+  fits = plain (record { past = past; room = omega arith; apart = inl low });
   head = head;
   clear = clear;
 }
@@ -155,8 +117,8 @@ port-sendable p port l =
     get_status_code 0 (port + 1) 4 (omega arith) (omega arith) (omega arith) (omega arith) (omega arith)
 
 module _ {h₀ : List Event} where
-  abbrev pub Calmly : ℕ → ℕ → State h₀ → State h₀ → Type 0
-  Calmly a m = Quiet Keys (Calm a m)
+  abbrev pub Calmly : State h₀ → State h₀ → Type 0
+  Calmly = Quiet Keys Calm
 
   abbrev pub Stilly : State h₀ → State h₀ → Type 0
   Stilly = Quiet Keys Still
@@ -164,8 +126,8 @@ module _ {h₀ : List Event} where
   abbrev order : Preorder Stilly
   order = quiet-order Keys Still
 
-  pub calm-of-still : {a m : ℕ} {s t : State h₀} → Quiet Keys Still s t → Quiet Keys (Calm a m) s t
-  calm-of-still r = record { keep = r.keep; past = adds_map (λ e x. still-calm x) r.past }
+  pub calm-of-still : {s t : State h₀} → Quiet Keys Still s t → Quiet Keys Calm s t
+  calm-of-still r = record { keep = r.keep; past = adds_map (λ e x. x.calm) r.past }
 
   pub added-step : {K : ℕ → ℕ → Type 0} {E : Event → Type 0} {P : State h₀ → Type 0} {t : State h₀} {e : Event} → E e → (a : Added P e t)
       → Quiet K E a.before t
@@ -209,11 +171,11 @@ module _ {h₀ : List Event} where
       still-hub-status _)
       (k_skip order)
 
-  pub clear-still : (p feature port : ℕ) → feature < 65536 → feature ≢ c_port_connection → port < 10 → Keeps Stilly (clear_port_feature p feature port)
+  pub clear-still : (p feature port : ℕ) → feature < 65536 → port < 10 → Keeps Stilly (clear_port_feature p feature port)
   unfolding hub_change_port_feature
-  clear-still p feature port h x l = k-next order
+  clear-still p feature port h l = k-next order
       (control-quiet Keys p _ nowhere (sends_none head-keys to_port clear_feature_code feature (port + 1) (omega arith) (omega arith) h
-      (omega arith) 0 (omega arith)) (λ a o. still-clear feature port a o x))
+      (omega arith) 0 (omega arith)) (still-clear feature port))
       (k_skip order)
 
   power-still : (p port : ℕ) → port < 10 → Keeps Stilly (set_port_feature p port_power port)

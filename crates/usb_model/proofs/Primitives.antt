@@ -13,26 +13,27 @@ use Rattle.usb_types.proofs.LittleEndian.{length-le}
 use Rattle.usb_types.proofs.Lengths.{request-length, wait-length, frame-length}
 use Rattle.usb_types.specs.declared.request.UsbDeviceRequest.{UsbDeviceRequest}
 use Rattle.usb_types.specs.declared.pipe.UsbPipeAddress.{UsbPipeAddress}
-use Rattle.usb_store.specs.Layout.{hub_field, max_children_field, error_field, last_transfer_field}
+use Rattle.usb_store.specs.Layout.{child_field, max_children_field, error_field, last_transfer_field}
 use Rattle.usb_store.proofs.Fields.{bytes_most}
 use Rattle.usb_store.proofs.Writes.{length-write}
+use Rattle.usb_device.proofs.Free.{first-most}
 use Rattle.usb_model.specs.Programs.{Ran}
-use Rattle.usb_model.specs.World.{World, with_store, get, get_bytes, get_number, put, put_bytes, put_number, has_unplugged, log_action, log_request, micro_delay, dwc_update_host_frame_interval}
+use Rattle.usb_model.specs.World.{World, with_store, get, get_bytes, get_number, put, put_bytes, put_number, log_action, log_request, micro_delay, dwc_update_host_frame_interval}
 use Rattle.usb_model.specs.Transfer.{Outcome, taken, outcomes_left, size_of, outcome_of, take_outcome, Buffer, usb_control_message, control, read}
 use Rattle.usb_model.specs.Kept.{Bytes, kinds_in, requests_in, is_kind, Good, Onward}
 use Rattle.usb_model.proofs.Bytes.{bytes_one, bytes-cons, bytes-append, zeros, bytes_le, bytes_take, bytes_drop, bytes-write, bytes-at, byte-at}
 use Rattle.usb_model.proofs.Onward.{onward-same}
-use Rattle.usb_model.proofs.Stores.{Span, still-same, Plain, plain-low, plain-less, none-follows, plain_follows, most-follows, hub-follows, store-onward, store-good, Follows}
+use Rattle.usb_model.proofs.Stores.{Plain, plain-low, plain-less, none-follows, plain_follows, most-follows, child-follows, store-onward, store-good, Follows}
 use Rattle.usb_model.proofs.Keeps.{Any, Left, is-done, is-halted, bind, next, gives, throws, looks, changes, succeeds, whens}
 use Rattle.usb_model.proofs.Ways.{logged_world, Logs, full, logged, log-ends, request-ends, Takes, missing, whole, take_ends}
 use Rattle.usb_model.proofs.Walks.{Reach, Walks, Goes, reach-on}
 
 -- ---- the store
 
-written : {u w : World} {n : Span} (t : List ℕ) → Reach u n w → Follows n w.store t → Reach u n (with_store t w)
-written t r f = reach-on r (store-onward t f.size) (store-good t f r.good) f.still
+written : {u w : World} {n : ℕ} (t : List ℕ) → Reach u n w → Follows w.store t → Reach u n (with_store t w)
+written t r f = reach-on r (store-onward t f) (store-good t f r.good)
 
-module _ {u : World} {n : Span} where
+module _ {u : World} {n : ℕ} where
   pub gets : (p f : ℕ) → Walks u n (get p f) (λ v. v < 256)
   unfolding get
   gets p f = looks _ (λ w r. byte-at w.store p f r.good.store)
@@ -63,18 +64,15 @@ module _ {u : World} {n : Span} where
   pub puts-number : (p f k v : ℕ) → Plain f k → Goes u n (put_number p f k v)
   puts-number p f k v r = puts-bytes p f k (little_endian k v) r (omega (arith, length-le k v)) (bytes_le k v)
 
-  pub puts-most : (p v : ℕ) → p < 32 → v ≤ 10 → Goes u n (put p max_children_field v)
+  pub puts-most : (p v : ℕ) → p < n → v ≤ 10 → Goes u n (put p max_children_field v)
   unfolding put_bytes
-  puts-most p v h l = changes _ (λ w x. written _ x (most-follows x.good p h v l))
+  puts-most p v h l = changes _ (λ w x. written _ x (most-follows x.good p v (omega (arith, x.used, first-most w.store)) l))
 
-  -- a hub byte, not 0
-  pub puts-hub : (p v : ℕ) → p < 32 → 0 < v → v < 256 → Goes u n (put p hub_field v)
+  pub puts-child : (p j c : ℕ) → j < 10 → p + 1 < c → c ≤ n → Goes u n (put p (child_field j) c)
   unfolding put_bytes
-  puts-hub p v h some l = changes _ (λ w x. written _ x (hub-follows x.good p h v some l))
-
-  pub gets-unplugged : Goes u n has_unplugged
-  unfolding has_unplugged
-  gets-unplugged = looks _ (λ w r. tt)
+  puts-child p j c h above low =
+      changes _
+      (λ w x. written _ x (child-follows x.good p j c (omega (arith, x.used, first-most w.store)) h above (omega (arith, x.used))))
 
 -- ---- the log
 
@@ -82,6 +80,8 @@ pub log-onward : {w : World} (action : List ℕ) (requests : ℕ) → length act
     → requests ≡ w.at.requests + requests_in 1 action → Onward w (logged_world w action requests)
 log-onward {w} action requests long kind e = record {
   store = refl;
+  free = omega arith;
+  first = omega arith;
   outcomes = refl;
   taken = omega arith;
   actions = 1;
@@ -103,17 +103,16 @@ log-good {w} action requests b room g = record {
   log = bytes-write w.log w.at.logged action g.log b;
   outcomes = g.outcomes;
   most = g.most;
-  tree = g.tree;
+  child = g.child;
 }
 
-module _ {u : World} {n : Span} (action : List ℕ) (long : length action ≡ 16) (kind : kinds_in is_kind 1 action ≡ 1) (b : Bytes action) where
+module _ {u : World} {n : ℕ} (action : List ℕ) (long : length action ≡ 16) (kind : kinds_in is_kind 1 action ≡ 1) (b : Bytes action) where
   log-left : {w : World} {r : Ran World (Unit {0})} (requests : ℕ) → requests ≡ w.at.requests + requests_in 1 action → Reach u n w
       → Logs action w requests r
       → Left (Reach u n) Any r
   log-left requests e x full = is-halted x
   log-left {w} requests e x (logged room) =
-      is-done (reach-on x (log-onward action requests long kind e)
-      (log-good {w = w} action requests b (omega (arith, room, x.good.logged)) x.good) still-same) tt
+      is-done (reach-on x (log-onward action requests long kind e) (log-good {w = w} action requests b (omega (arith, room, x.good.logged)) x.good)) tt
 
   -- an action that is no request
   pub logs : requests_in 1 action ≡ 0 → Goes u n (log_action action)
@@ -129,7 +128,7 @@ wait-bytes microseconds = bytes-append (bytes-cons (omega arith) (zeros 7)) (byt
 pub frame-bytes : Bytes frame_interval_action
 frame-bytes = bytes-cons (omega arith) (zeros 15)
 
-module _ {u : World} {n : Span} where
+module _ {u : World} {n : ℕ} where
   pub waits : (microseconds : ℕ) → Goes u n (micro_delay microseconds)
   unfolding micro_delay kinds_in
   waits microseconds = logs (wait_action microseconds) (wait-length microseconds) refl (wait-bytes microseconds) refl
@@ -175,6 +174,8 @@ took-onward {w} k =
     let o : Onward w w = onward-same w in
     record {
       store = refl;
+      free = omega arith;
+      first = omega arith;
       outcomes = refl;
       taken = omega arith;
       actions = o.actions;
@@ -195,7 +196,7 @@ took-good k l g = record {
   log = g.log;
   outcomes = g.outcomes;
   most = g.most;
-  tree = g.tree;
+  child = g.child;
 }
 
 pub delivered-bytes : {w : World} (asked : ℕ) → Good w → Bytes (outcome_of asked (outcomes_left w)).delivered
@@ -203,14 +204,14 @@ delivered-bytes {w} asked g =
     let left : List ℕ = outcomes_left w in
     bytes_take (min (size_of left) asked) (drop 4 left) (bytes_drop 4 left (bytes_drop w.at.taken w.outcomes g.outcomes))
 
-pub takes : {u : World} {n : Span} (asked : ℕ) → Walks u n (take_outcome asked) (λ o. Bytes o.delivered)
+pub takes : {u : World} {n : ℕ} (asked : ℕ) → Walks u n (take_outcome asked) (λ o. Bytes o.delivered)
 takes {u} {n} asked = record { run = λ w x. go w x (take_ends asked w) }
   where
     go : (w : World) → Reach u n w → {r : Ran World Outcome} → Takes asked w r → Left (Reach u n) (λ (o : Outcome). Bytes o.delivered) r
     go w x missing = is-halted x
     go w x (whole l) =
         is-done (reach-on x (took-onward (4 + size_of (outcomes_left w)))
-        (took-good (4 + size_of (outcomes_left w)) (omega (arith, l, length-drop w.at.taken w.outcomes, x.good.taken)) x.good) still-same)
+        (took-good (4 + size_of (outcomes_left w)) (omega (arith, l, length-drop w.at.taken w.outcomes, x.good.taken)) x.good))
         (delivered-bytes asked x.good)
 
 -- where delivered bytes may go: no key of the place
@@ -218,11 +219,11 @@ pub data Fits (b : Buffer) : Type 0 where
   room-none : b.room ≡ 0 → Fits b
   plain : Plain b.field b.room → Fits b
 
-delivers : {u : World} {n : Span} (p : ℕ) (b : Buffer) (vs : List ℕ) → Fits b → Bytes vs → Goes u n (put_bytes p b.field (take b.room vs))
+delivers : {u : World} {n : ℕ} (p : ℕ) (b : Buffer) (vs : List ℕ) → Fits b → Bytes vs → Goes u n (put_bytes p b.field (take b.room vs))
 delivers p b vs (room-none e) c = rw e (puts_none p b.field)
 delivers p b vs (plain r) c = puts-bytes p b.field b.room _ r (omega (arith, length-take b.room vs)) (bytes_take b.room vs c)
 
-module _ {u : World} {n : Span} (p : ℕ) (q : UsbDeviceRequest) (b : Buffer) (c : Byte-codes q) (fits : Fits b) where
+module _ {u : World} {n : ℕ} (p : ℕ) (q : UsbDeviceRequest) (b : Buffer) (c : Byte-codes q) (fits : Fits b) where
   pub messages : (address : ℕ) → address < 256 → Walks u n (usb_control_message p address q b) Bytes
   unfolding usb_control_message kinds_in
   messages address h =

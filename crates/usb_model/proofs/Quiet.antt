@@ -13,7 +13,7 @@ use Rattle.usb_model.specs.World.{put, put_bytes}
 use Rattle.usb_model.specs.Kept.{Bytes}
 use Rattle.usb_model.specs.History.{Event}
 use Rattle.usb_model.proofs.Bytes.{bytes_one}
-use Rattle.usb_model.proofs.Stores.{upto, Follows, Plain, plain-less, plain_follows}
+use Rattle.usb_model.proofs.Stores.{Follows, Plain, plain-less, plain_follows}
 use Rattle.usb_model.proofs.Triples.{State, store, Preorder, Keeps, stored, k-store}
 
 -- ---- the bytes that the claim depends on
@@ -124,7 +124,7 @@ module _ {h₀ : List Event} (K : ℕ → ℕ → Type 0) (E : Event → Type 0)
   }
 
   -- a write that leaves out the bytes K
-  pub write-quiet : (s : State h₀) (p f : ℕ) (vs : List ℕ) (n : ℕ) (x : Follows (upto 0) (store s) (with_bytes (store s) p f vs)) → Clear K p f n
+  pub write-quiet : (s : State h₀) (p f : ℕ) (vs : List ℕ) (n : ℕ) (x : Follows (store s) (with_bytes (store s) p f vs)) → Clear K p f n
       → length vs ≤ n → Quiet s (stored s (with_bytes (store s) p f vs) x)
   write-quiet s p f vs n x c l = record {
     keep = λ q g k. byte-other (store s) p f vs q g (apart-less p f (length vs) n q g l (c.apart q g k));

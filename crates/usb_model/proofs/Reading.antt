@@ -26,7 +26,7 @@ drop-take (suc n) m (x ∷ l) = rw suc-add (drop-take n m l)
 -- ---- n actions and one more
 
 -- the first n actions are read off the first 16 n bytes
-pub read-front : (n : ℕ) (l m : List ℕ) (r : Reading) → take (16 * n) l ≡ take (16 * n) m → read_log n l r ≡ read_log n m r
+read-front : (n : ℕ) (l m : List ℕ) (r : Reading) → take (16 * n) l ≡ take (16 * n) m → read_log n l r ≡ read_log n m r
 unfolding read_log
 read-front zero l m r e = refl
 read-front (suc n) l m r e =
@@ -35,7 +35,7 @@ read-front (suc n) l m r e =
     let rest : take (16 * n) (drop 16 l) ≡ take (16 * n) (drop 16 m) = sym (drop-take 16 (16 * n) l) ∙ ap (drop 16) (rw more at e) ∙ drop-take 16 (16 * n) m in
     read-front n (drop 16 l) (drop 16 m) (read_action (take 16 l) r) rest ∙ ap (λ (a : List ℕ). read_log n (drop 16 m) (read_action a r)) first
 
-pub read-last : (n : ℕ) (log : List ℕ) (r : Reading) → read_log (n + 1) log r ≡ read_action (take 16 (drop (16 * n) log)) (read_log n log r)
+read-last : (n : ℕ) (log : List ℕ) (r : Reading) → read_log (n + 1) log r ≡ read_action (take 16 (drop (16 * n) log)) (read_log n log r)
 unfolding read_log
 read-last zero log r = refl
 read-last (suc n) log r =
@@ -60,7 +60,7 @@ pub reads_more : {h₀ h h' : List Event} {w : World} (action : List ℕ) (taken
       store = w.store;
       log = write w.log w.at.logged action;
       outcomes = w.outcomes;
-      at = record { logged = w.at.logged + 16; taken = taken; requests = requests; unplugged = w.at.unplugged };
+      at = record { logged = w.at.logged + 16; taken = taken; requests = requests };
     }) h'
 reads_more {h₀} {h} {h'} {w} action taken requests r long room e = record {
   actions = r.actions + 1;

@@ -196,13 +196,7 @@ module _ (lent : Lent) where
     unfolding call
     calls accepted m h = answers (h.grows (start lent)) (h.repeats (start lent))
     calls (refused r) m h =
-        let unchanged : World = record {
-          store = lent.new;
-          log = lent.log;
-          outcomes = [];
-          at =
-              record { logged = 0; taken = 0; requests = 0; unplugged = 0 };
-        } in
+        let unchanged : World = record { store = lent.new; log = lent.log; outcomes = []; at = record { logged = 0; taken = 0; requests = 0 } } in
         goes_on unchanged unchanged still still (λ _. refl)
 
     pub root-attach-repeated : (speed : ℕ) → Repeated lent (root_attach speed lent) (root_attach speed (with_more more lent))

@@ -8,7 +8,7 @@ use Prim.Native.Nat.{ℕ, ◌<◌}
 use native.Mathlib.Omega.{arith}
 use Rattle.usb_store.specs.Layout.{used_field, speed_field, hub_field}
 use Rattle.usb_store.specs.Access.{byte_at}
-use Rattle.usb_sound.specs.Sound.{Depth, Sound}
+use Rattle.usb_sound.specs.Sound.{Sound}
 use Rattle.usb_sound.proofs.Hubs.{hub-used}
 use Rattle.usb_model.specs.Programs.{end_of}
 use Rattle.usb_model.specs.World.{World, M}
@@ -17,83 +17,79 @@ use Rattle.usb_model.specs.Attach.{attach_below, usb_attach_root_hub}
 use Rattle.usb_model.specs.Entry.{Lent, Verdict, accepted, refused, is_unused, no_port, root_verdict, hub_verdict, start, call, root_attach, scan, port_check, child_reset, child_check, retried_reset, connection_change}
 use Rattle.usb_model.proofs.Accepted.{port-inside, root-accepted, hub-accepted}
 use Rattle.usb_model.proofs.Keeps.{Any, left-holds, Safe, Keeps, next-to}
-use Rattle.usb_model.proofs.Stores.{upto}
 use Rattle.usb_model.proofs.SoundStores.{At}
-use Rattle.usb_model.proofs.SoundPlaces.{root-sound, root-since, root-fresh, root-deep}
+use Rattle.usb_model.proofs.SoundPlaces.{root-sound, root-since, root-fresh}
 use Rattle.usb_model.proofs.SoundSteps.{Held, since-join, puts}
 use Rattle.usb_model.proofs.SoundFunctions.{puts-status, child-reset, reset}
-use Rattle.usb_model.proofs.SoundCycle.{here, grown, moved, on, allocates, attaches, connection-changed, check-connection, check-device, check-for-change}
+use Rattle.usb_model.proofs.SoundCycle.{here, grown, moved, allocates, attaches, connection-changed, check-connection, check-device, check-for-change}
 
 -- ---- inside a run
 
--- the world that m leaves from w has a sound store, in which the places of w to the depth d are where they were
-abbrev pub Stays : ℕ → M (Unit {0}) → World → Type 0
-Stays d m w = Held (upto d) w.store (end_of (m w))
+-- the world that m leaves from w has a sound store, later than that of w
+abbrev pub Stays : M (Unit {0}) → World → Type 0
+Stays m w = Held false w.store (end_of (m w))
 
-stays : {d : ℕ} {m : M (Unit {0})} (w : World) → Sound w.store → Keeps (Held (upto d) w.store) m Any → Stays d m w
+stays : {m : M (Unit {0})} (w : World) → Sound w.store → Keeps (Held false w.store) m Any → Stays m w
 stays w r h = left-holds (h.run w (here w r))
 
 -- a hub is used
 pub hub-place : {s : List ℕ} {hub : ℕ} → Sound s → hub < 32 → byte_at s hub hub_field ≢ 0 → At s hub 1
 hub-place {s} {hub} r inside n = record { inside = inside; used = omega (arith, hub-used s r hub inside n); hub = omega (arith, n) }
 
-module _ (w : World) (r : Sound w.store) {d hub : ℕ} (u : At w.store hub 1) (x : Depth w.store hub d) where
-  pub reset-stays : (port : ℕ) → port < 10 → Stays d (hub_port_reset hub port) w
-  reset-stays port l = stays w r (reset (on u x (omega arith)) port l)
+module _ (w : World) (r : Sound w.store) {hub : ℕ} (u : At w.store hub 1) where
+  pub reset-stays : (port : ℕ) → port < 10 → Stays (hub_port_reset hub port) w
+  reset-stays port l = stays w r (reset u port l)
 
-  pub child-reset-stays : (child : ℕ) → Stays d (hub_child_reset hub child) w
-  child-reset-stays child = stays w r (child-reset (on u x (omega arith)) child)
+  pub child-reset-stays : (child : ℕ) → Stays (hub_child_reset hub child) w
+  child-reset-stays child = stays w r (child-reset u child)
 
   module _ (free : ℕ) where
-    pub connection-changed-stays : (port : ℕ) → port < 10 → Stays d (hub_port_connection_changed (attach_below free) hub port) w
-    connection-changed-stays port l = stays w r (connection-changed (attach_below free) (attaches free) u x port l)
+    pub connection-changed-stays : (port : ℕ) → port < 10 → Stays (hub_port_connection_changed (attach_below free) hub port) w
+    connection-changed-stays port l = stays w r (connection-changed (attach_below free) (attaches free) u port l)
 
-    pub check-connection-stays : (port : ℕ) → port < 10 → Stays d (hub_check_connection (attach_below free) hub port) w
-    check-connection-stays port l = stays w r (check-connection (attach_below free) (attaches free) u x port l)
+    pub check-connection-stays : (port : ℕ) → port < 10 → Stays (hub_check_connection (attach_below free) hub port) w
+    check-connection-stays port l = stays w r (check-connection (attach_below free) (attaches free) u port l)
 
-    pub check-device-stays : (child : ℕ) → Stays d (hub_check_connection_device (attach_below free) hub child) w
-    check-device-stays child = stays w r (check-device (attach_below free) (attaches free) u x child)
+    pub check-device-stays : (child : ℕ) → Stays (hub_check_connection_device (attach_below free) hub child) w
+    check-device-stays child = stays w r (check-device (attach_below free) (attaches free) u child)
 
-    pub check-for-change-stays : (above : ℕ) → Stays d (hub_check_for_change (attach_below free) above hub) w
-    check-for-change-stays above = stays w r (check-for-change free above u x)
+    pub check-for-change-stays : (above : ℕ) → Stays (hub_check_for_change (attach_below free) above hub) w
+    check-for-change-stays above = stays w r (check-for-change free above u)
 
 -- no place is used
 record Empty (s : List ℕ) (w : World) : Type 0 where
-  held : Held (upto 0) s w
+  held : Held false s w
   none : byte_at w.store 0 used_field ≡ 0
 
-root-hub : {s : List ℕ} (speed : ℕ) → speed < 3 → Safe (Empty s) (Held (upto 0) s) (usb_attach_root_hub speed) Any
+root-hub : {s : List ℕ} (speed : ℕ) → speed < 3 → Safe (Empty s) (Held false s) (usb_attach_root_hub speed) Any
 unfolding usb_attach_root_hub
 root-hub speed l = allocates (λ w e. e.held) _ λ w e p first inside.
     let r = e.held.sound in
     let fresh = root-fresh r first inside e.none in
-    let deep = root-deep r first inside e.none in
-    let new = on fresh.place deep (omega arith) in
-    moved (omega arith) (since-join e.held.since (root-since r first inside e.none 0))
-    ((next-to grown (puts new speed_field speed (λ h m. omega arith) (inl (omega arith)))
-    (next-to grown (puts-status new _ (omega arith)) (attaches 32 p _ fresh deep))
+    moved (since-join e.held.since (root-since r first inside e.none))
+    ((next-to grown (puts fresh.place speed_field speed (λ h m. omega arith) (inl (omega arith)))
+    (next-to grown (puts-status fresh.place _ (omega arith)) (attaches 32 p _ fresh))
     ).run _ (here _ (root-sound r first inside e.none)))
 
 pub root-hub-stays : (w : World) → Sound w.store → byte_at w.store 0 used_field ≡ 0 → (speed : ℕ) → speed < 3
-    → Stays 0 (usb_attach_root_hub speed) w
+    → Stays (usb_attach_root_hub speed) w
 root-hub-stays w r none speed l = left-holds ((root-hub speed l).run w (record { held = here w r; none = none }))
 
 -- ---- the entry points
 
 module _ (lent : Lent) where
-  called-sound : {d : ℕ} (v : Verdict) (m : M (Unit {0})) → v ≡ accepted → Stays d m (start lent) → Sound (call lent v m).new
+  called-sound : (v : Verdict) (m : M (Unit {0})) → v ≡ accepted → Stays m (start lent) → Sound (call lent v m).new
   unfolding call
   called-sound accepted m e h = h.sound
   called-sound (refused r) m e h = let z : ◌≡◌ {A = ℕ} 0 1 = cc in absurd (omega arith)
 
   -- a call that names a hub
   hub-called : (hub : ℕ) (bad : Bool) (m : M (Unit {0})) → hub_verdict lent hub bad ≡ accepted
-      → (Sound lent.old → At lent.old hub 1 → (d : ℕ) → Depth lent.old hub d → bad ≡ false → Stays d m (start lent))
+      → (Sound lent.old → At lent.old hub 1 → bad ≡ false → Stays m (start lent))
       → Sound (call lent (hub_verdict lent hub bad) m).new
   hub-called hub bad m e h =
       let x = hub-accepted lent hub bad e in
-      let deep = x.is-sound.reaches hub (x.inside, x.used) in
-      called-sound _ m e (h x.is-sound (hub-place x.is-sound x.inside x.is-hub) deep.0 deep.1 x.good)
+      called-sound _ m e (h x.is-sound (hub-place x.is-sound x.inside x.is-hub) x.good)
 
   pub root-attach-sound : (speed : ℕ) → root_verdict lent speed ≡ accepted → Sound (root_attach speed lent).new
   unfolding root_attach
@@ -103,27 +99,27 @@ module _ (lent : Lent) where
 
   pub scan-sound : (hub : ℕ) → hub_verdict lent hub false ≡ accepted → Sound (scan hub lent).new
   unfolding scan
-  scan-sound hub e = hub-called hub false _ e λ r u d x _. check-for-change-stays (start lent) r u x 32 32
+  scan-sound hub e = hub-called hub false _ e λ r u _. check-for-change-stays (start lent) r u 32 32
 
   pub port-check-sound : (hub port : ℕ) → hub_verdict lent hub (no_port port) ≡ accepted → Sound (port_check hub port lent).new
   unfolding port_check
   port-check-sound hub port e =
-      hub-called hub (no_port port) _ e λ r u d x g. check-connection-stays (start lent) r u x 32 port (port-inside port g)
+      hub-called hub (no_port port) _ e λ r u g. check-connection-stays (start lent) r u 32 port (port-inside port g)
 
   pub connection-change-sound : (hub port : ℕ) → hub_verdict lent hub (no_port port) ≡ accepted → Sound (connection_change hub port lent).new
   unfolding connection_change
   connection-change-sound hub port e =
-      hub-called hub (no_port port) _ e λ r u d x g. connection-changed-stays (start lent) r u x 32 port (port-inside port g)
+      hub-called hub (no_port port) _ e λ r u g. connection-changed-stays (start lent) r u 32 port (port-inside port g)
 
   pub retried-reset-sound : (hub port : ℕ) → hub_verdict lent hub (no_port port) ≡ accepted → Sound (retried_reset hub port lent).new
   unfolding retried_reset
   retried-reset-sound hub port e =
-      hub-called hub (no_port port) _ e λ r u d x g. reset-stays (start lent) r u x port (port-inside port g)
+      hub-called hub (no_port port) _ e λ r u g. reset-stays (start lent) r u port (port-inside port g)
 
   pub child-check-sound : (hub child : ℕ) → hub_verdict lent hub (is_unused lent child) ≡ accepted → Sound (child_check hub child lent).new
   unfolding child_check
-  child-check-sound hub child e = hub-called hub (is_unused lent child) _ e λ r u d x _. check-device-stays (start lent) r u x 32 child
+  child-check-sound hub child e = hub-called hub (is_unused lent child) _ e λ r u _. check-device-stays (start lent) r u 32 child
 
   pub child-reset-sound : (hub child : ℕ) → hub_verdict lent hub (is_unused lent child) ≡ accepted → Sound (child_reset hub child lent).new
   unfolding child_reset
-  child-reset-sound hub child e = hub-called hub (is_unused lent child) _ e λ r u d x _. child-reset-stays (start lent) r u x child
+  child-reset-sound hub child e = hub-called hub (is_unused lent child) _ e λ r u _. child-reset-stays (start lent) r u child

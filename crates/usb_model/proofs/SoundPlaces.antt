@@ -1,9 +1,9 @@
 -- A sound store in which a place is taken, for the root hub or for a child. Assumes nothing.
 use mathlib.Core.Path.{◌≡◌, refl, sym, ap, ◌∙◌, subst}
-use mathlib.Core.Bool.{false≢true}
+use mathlib.Core.Bool.{false, false≢true}
 use mathlib.Core.Logic.{◌⊎◌, inl, inr, ⊎_elim, ◌≢◌}
 use mathlib.Core.List.{List, [], ◌∷◌}
-use Prim.Native.Nat.{ℕ, suc, ◌+◌, ◌-◌, ◌≤◌, ◌<◌}
+use Prim.Native.Nat.{ℕ, ◌+◌, ◌-◌, ◌≤◌, ◌<◌}
 use native.Mathlib.Omega.{arith}
 use native.Mathlib.Decide.{ℕ_discrete, dec_lt}
 use lib.ListN.{length, get_or}
@@ -12,14 +12,12 @@ use Rattle.usb_store.specs.Access.{Within, byte_at, number_at, with_bytes, with_
 use Rattle.usb_store.proofs.Fields.{with-length, byte-same}
 use Rattle.usb_store.proofs.Cells.{byte-else}
 use Rattle.usb_device.specs.Device.{new_device, first_unused}
-use Rattle.usb_device.proofs.Free.{first-before, first-unused, new-byte, new-elsewhere}
+use Rattle.usb_device.proofs.Free.{first-unused, new-byte, new-elsewhere}
 use Rattle.usb_device.proofs.NewDevice.{new-bytes, new-error, new-zero}
 use Rattle.usb_place.specs.Rules.{OneOf, errors}
-use Rattle.usb_sound.specs.Sound.{IsUsed, IsChild, Depth, top, down, ChildOnce, Sound}
-use Rattle.usb_sound.proofs.Depths.{depth-more}
-use Rattle.usb_sound.proofs.Hubs.{hub-used}
+use Rattle.usb_sound.specs.Sound.{IsUsed, IsChild, ChildOnce, Sound}
+use Rattle.usb_sound.proofs.Hubs.{before-used}
 use Rattle.usb_model.proofs.SoundStores.{Rule, Cells, hub-grows, edited, error-same, Since, At, is-used}
-use Rattle.usb_model.proofs.Stores.{upto}
 
 -- ---- a new device
 
@@ -125,7 +123,7 @@ module _ {N : ℕ → ℕ → Type 0} {s t : List ℕ} (r : Sound s) {p : ℕ} (
   stood q n u c = record {
     hub = c.hub;
     port = c.port;
-    inside = c.inside;
+    smaller = c.smaller;
     within = c.within;
     is-hub = λ z. c.is-hub (sym (plain c.hub hub_field there (omega arith)) ∙ z);
     stands = ⊎_elim (λ e. e ∙ c.stands) (λ e. absurd (omega (arith, e.2, c.stands))) (k.child c.hub c.port there c.within);
@@ -136,7 +134,7 @@ module _ {N : ℕ → ℕ → Type 0} {s t : List ℕ} (r : Sound s) {p : ℕ} (
   }
     where
       there : c.hub ≢ p
-      there = not-here c.hub (c.inside, hub-used s r c.hub c.inside c.is-hub)
+      there = not-here c.hub (r.packed c.hub q c.smaller u)
 
   -- what holds of the new device's byte, and of the byte as it was, holds of the byte
   by_place : (q g : ℕ) → g < 96 → (P : ℕ → Type 0) → (q ≡ p → P (get_or (new_device p) g 0)) → P (byte_at s q g) → P (byte_at t q g)
@@ -146,19 +144,10 @@ module _ {N : ℕ → ℕ → Type 0} {s t : List ℕ} (r : Sound s) {p : ℕ} (
       go (yes e) = subst P (sym (ap (λ (i : ℕ). byte_at t i g) e ∙ k.new g (omega arith))) (new e)
       go (no n) = subst P (sym (plain q g n l)) old
 
-  -- what is a child stays one
-  still-child : (h i c : ℕ) → i < 10 → IsChild s h i c → IsChild t h i c
-  still-child h i c l e = go (ℕ_discrete h p)
-    where
-      go : Dec (h ≡ p) → IsChild t h i c
-      go (yes a) = absurd (omega (arith, e, ap (λ (x : ℕ). byte_at s x (child_field i)) a, zero (child_field i) (omega arith)))
-      go (no n) = ⊎_elim (λ x. x ∙ e) (λ x. absurd (omega (arith, e, x.2))) (k.child h i n l)
-
-  taken-since : (n : ℕ) → Since (upto n) s t
-  taken-since n = record {
-    depth = λ q d a x. depth-more s t (λ h i c _ l z. still-child h i c l z) x;
-    used = λ q d a x l. by_place q used_field (omega arith) (λ b. byte_at s q used_field ≤ b) (λ e. omega (arith, free, ap (λ (i : ℕ). byte_at s i used_field) e)) (omega arith);
-    hub = λ q d a x l. hub-grows r taken-cells q l;
+  taken-since : Since false s t
+  taken-since = record {
+    used = λ q l. by_place q used_field (omega arith) (λ b. byte_at s q used_field ≤ b) (λ e. omega (arith, free, ap (λ (i : ℕ). byte_at s i used_field) e)) (omega arith);
+    hub = hub-grows r taken-cells;
     hub-same = λ e. absurd (false≢true e);
     child-same = λ e. absurd (false≢true e);
   }
@@ -169,16 +158,15 @@ module _ {N : ℕ → ℕ → Type 0} {s t : List ℕ} (r : Sound s) {p : ℕ} (
     hub = k.new hub_field (omega arith) ∙ (new-bytes p).hub;
   }
 
-  -- so it is sound, if place 0 is used, and it is the first or stands as a child
-  taken-sound : IsUsed t 0 → ((h i : ℕ) → N h i → p ≢ 0) → (p ≢ 0 → ChildOnce t p) → (n : ℕ) × Depth t p n → Sound t
-  taken-sound base below stands deep = edited r taken-cells errors-same (record {
+  -- so it is sound, if the places before it are used, and it is the first or stands as a child
+  taken-sound : ((q : ℕ) → q < p → IsUsed s q) → ((h i : ℕ) → N h i → p ≢ 0) → (p ≢ 0 → ChildOnce t p) → Sound t
+  taken-sound before below stands = edited r taken-cells errors-same (record {
     used = λ q l. by_place q used_field (omega arith) (λ b. OneOf b (0 ∷ 1 ∷ [])) (λ _. inr (inl (new-bytes p).used)) (r.used q l);
     unused = λ q l e g m. unused q l (λ a. omega (arith, e, here-used.1, ap (λ (i : ℕ). byte_at t i used_field) a)) e g m;
     children = λ h i c a l e. ⊎_elim (λ x. still-used c (r.children h i c a l x)) (λ x. subst (IsUsed t) (sym x.1) here-used) (was-child h i c l e);
     root = λ h i a l e. ⊎_elim (r.root h i a l) (λ x. below h i x.0 (sym x.1)) (was-child h i 0 l e);
     child = λ q l u. child q l u (ℕ_discrete q p);
-    first = λ _ _. base;
-    reaches = λ q u. reach q u (ℕ_discrete q p);
+    packed = λ a b l u. still-used a (packed a b l u (ℕ_discrete b p));
     root-parent = by_place 0 parent_field (omega arith) (λ b. b ≡ 0) (λ _. (new-bytes p).parent) r.root-parent;
   })
     where
@@ -191,15 +179,18 @@ module _ {N : ℕ → ℕ → Type 0} {s t : List ℕ} (r : Sound s) {p : ℕ} (
       child q l u (yes e) = rw e (stands (omega (arith, e)))
       child q l u (no n) = stood q n (was-used q n u) (r.child q l (was-used q n u))
 
-      reach : (q : ℕ) → IsUsed t q → Dec (q ≡ p) → (n : ℕ) × Depth t q n
-      reach q u (yes e) = rw e deep
-      reach q u (no n) = let d = r.reaches q (was-used q n u) in (d.0, depth-more s t (λ h i c _ l x. still-child h i c l x) d.1)
+      packed : (a b : ℕ) → a < b → IsUsed t b → Dec (b ≡ p) → IsUsed s a
+      packed a b l u (yes e) = before a (omega (arith, e))
+      packed a b l u (no n) = r.packed a b l (was-used b n u)
 
 -- ---- the first unused place
 
 module _ {s : List ℕ} (r : Sound s) {p : ℕ} (first : p ≡ first_unused s) (inside : p < 32) where
   free : byte_at s p used_field ≡ 0
   free = ap (λ (k : ℕ). byte_at s k used_field) first ∙ first-unused s (omega (arith, first))
+
+  before : (q : ℕ) → q < p → IsUsed s q
+  before q l = before-used s r q (omega (arith, first))
 
   abbrev pub with-new : List ℕ
   with-new = with_bytes s p 0 (new_device p)
@@ -210,7 +201,7 @@ module _ {s : List ℕ} (r : Sound s) {p : ℕ} (first : p ≡ first_unused s) (
     is-root = go (dec_lt 0 p)
       where
         go : Dec (0 < p) → p ≡ 0
-        go (yes l) = absurd (first-before s 0 (omega (arith, first)) empty)
+        go (yes l) = absurd (omega (arith, empty, (before 0 l).1))
         go (no l) = omega arith
 
     root-taken : Taken (λ _ _. ⊥) s with-new p
@@ -222,15 +213,10 @@ module _ {s : List ℕ} (r : Sound s) {p : ℕ} (first : p ≡ first_unused s) (
     }
 
     pub root-sound : Sound with-new
-    root-sound =
-        taken-sound r inside free root-taken (subst (IsUsed with-new) is-root (here-used r inside free root-taken)) (λ h i x. absurd x)
-        (λ n. absurd (n is-root)) (0, subst (λ (i : ℕ). Depth with-new i 0) (sym is-root) top)
+    root-sound = taken-sound r inside free root-taken before (λ h i x. absurd x) (λ n. absurd (n is-root))
 
-    pub root-since : (n : ℕ) → Since (upto n) s with-new
+    pub root-since : Since false s with-new
     root-since = taken-since r inside free root-taken
-
-    pub root-deep : Depth with-new p 0
-    root-deep = subst (λ (i : ℕ). Depth with-new i 0) (sym is-root) top
 
     pub root-fresh : Fresh with-new p
     root-fresh = taken-fresh r inside free root-taken
@@ -240,14 +226,13 @@ module _ {s : List ℕ} (r : Sound s) {p : ℕ} (first : p ≡ first_unused s) (
     abbrev pub with-child : List ℕ
     with-child = with_byte with-new h (child_field j) (p + 1)
 
-    off : h ≢ p
-    off e = omega (arith, free, u.used, ap (λ (k : ℕ). byte_at s k used_field) e)
-
-    first-used : IsUsed s 0
-    first-used = r.first h (is-used r u)
-
-    not_first : p ≢ 0
-    not_first e = omega (arith, free, first-used.1, ap (λ (k : ℕ). byte_at s k used_field) e)
+    below : h < p
+    below = go (dec_lt h p) (dec_lt p h)
+      where
+        go : Dec (h < p) → Dec (p < h) → h < p
+        go (yes l) m = l
+        go (no l) (yes m) = absurd (omega (arith, free, (r.packed p h m (is-used r u)).1))
+        go (no l) (no m) = let e : p ≡ h = omega arith in absurd (omega (arith, free, u.used, ap (λ (k : ℕ). byte_at s k used_field) e))
 
     child-within : Within with-new h (child_field j) 1
     child-within = record { whole = with-length s p 0 (new_device p) ∙ r.whole; inside = u.inside; room = omega arith }
@@ -261,7 +246,7 @@ module _ {s : List ℕ} (r : Sound s) {p : ℕ} (first : p ≡ first_unused s) (
     child-taken : Taken (λ q i. (q ≡ h) × (i ≡ j)) s with-child p
     child-taken = record {
       size = with-length with-new h (child_field j) ((p + 1) ∷ []) ∙ with-length s p 0 (new_device p);
-      new = λ g l. byte-else with-new h (child_field j) (p + 1) p g (omega arith) l (λ a e. off (sym a)) ∙ new-byte s p g r.whole inside l;
+      new = λ g l. byte-else with-new h (child_field j) (p + 1) p g (omega arith) l (λ a e. omega (arith, below)) ∙ new-byte s p g r.whole inside l;
       other = λ q g n l c. as_before q g n l (λ a e. omega (arith, c (omega arith)));
       child = λ q i n l. ports q i n l (ℕ_discrete q h) (ℕ_discrete i j);
     }
@@ -274,31 +259,21 @@ module _ {s : List ℕ} (r : Sound s) {p : ℕ} (first : p ≡ first_unused s) (
         ports q i n l (yes a) (no b) = inl (as_before q (child_field i) n (omega arith) (λ _ e. b (omega arith)))
         ports q i n l (no a) b = inl (as_before q (child_field i) n (omega arith) (λ e _. a e))
 
-    pub child-since : (n : ℕ) → Since (upto n) s with-child
+    pub child-since : Since false s with-child
     child-since = taken-since r inside free child-taken
-
-    pub child-deep : {d : ℕ} → Depth s h d → Depth with-child p (suc d)
-    child-deep x =
-        down u.inside port child-stands (depth-more s with-child (λ h i c _ l z. still-child r inside free child-taken h i c l z) x)
 
     pub child-fresh : Fresh with-child p
     child-fresh = taken-fresh r inside free child-taken
 
     pub child-sound : Sound with-child
-    child-sound = taken-sound r inside free child-taken (still-used r inside free child-taken 0 first-used) (λ h i x. not_first) (λ _. record {
+    child-sound = taken-sound r inside free child-taken before (λ h i x. omega (arith, below)) (λ _. record {
       hub = h;
       port = j;
-      inside = u.inside;
+      smaller = below;
       within = port;
-      is-hub = λ z. omega (arith, z, u.hub, plain r inside free child-taken h hub_field off (omega arith));
+      is-hub = λ z. omega (arith, z, u.hub, plain r inside free child-taken h hub_field (λ e. omega (arith, below)) (omega arith));
       stands = child-stands;
       once = λ q i a l e. ⊎_elim (λ c. absurd (not-here r inside free child-taken p (r.children q i p a l c) refl)) (λ x. x.0)
           (was-child r inside free child-taken q i p l e);
       parent = inl (child-taken.new parent_field (omega arith) ∙ (new-bytes p).parent);
-    }) (
-        let d = r.reaches h (is-used r u) in (
-          suc d.0,
-          down u.inside port child-stands
-              (depth-more s with-child (λ h i c _ l x. still-child r inside free child-taken h i c l x) d.1),
-        )
-        )
+    })

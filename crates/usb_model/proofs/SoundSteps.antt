@@ -19,84 +19,73 @@ use Rattle.usb_store.proofs.Fields.{bytes_most}
 use Rattle.usb_model.specs.World.{World, with_store, get, get_bytes, get_number, put, put_bytes, put_number, appended, counted, log_action, log_request, micro_delay, dwc_update_host_frame_interval}
 use Rattle.usb_model.specs.Transfer.{taken, take_outcome, Buffer, usb_control_message, control, read}
 use Rattle.usb_model.proofs.Keeps.{Any, Keeps, bind, next, gives, throws, stops, looks, peeks, changes, succeeds, whens, stops-if}
-use Rattle.usb_model.proofs.Stores.{Span}
-use Rattle.usb_model.proofs.SoundStores.{Since, At, On, later, Edit, edit-since, edit-sound, May, plain-edit, byte-edit, error-edit}
+use Rattle.usb_model.proofs.SoundStores.{Since, At, later, Edit, edit-since, edit-sound, May, plain-edit, byte-edit, error-edit}
 
 -- ---- a world with a sound store, later than the store s
 
-pub record Held (n : Span) (s : List ℕ) (w : World) : Type 0 where
+pub record Held (b : Bool) (s : List ℕ) (w : World) : Type 0 where
   pub sound : Sound w.store
-  pub since : Since n s w.store
+  pub since : Since b s w.store
 
-pub since-join : {n : Span} {s t u : List ℕ} → Since n s t → Since n t u → Since n s u
+pub since-join : {b : Bool} {s t u : List ℕ} → Since b s t → Since b t u → Since b s u
 since-join o p = record {
-  depth = λ q d a x. p.depth q d a (o.depth q d a x);
-  used = λ q d a x l. omega (arith, o.used q d a x l, p.used q d a (o.depth q d a x) l);
-  hub = λ q d a x l. omega (arith, o.hub q d a x l, p.hub q d a (o.depth q d a x) l);
+  used = λ q l. omega (arith, o.used q l, p.used q l);
+  hub = λ q l. omega (arith, o.hub q l, p.hub q l);
   hub-same = λ e q l. omega (arith, o.hub-same e q l, p.hub-same e q l);
-  child-same = λ e q j m l. omega (arith, o.child-same e q j m l, p.child-same e q j m l);
+  child-same = λ e q j l. omega (arith, o.child-same e q j l, p.child-same e q j l);
 }
 
-pub since-same : {n : Span} {s : List ℕ} → Since n s s
-since-same = record {
-  depth = λ q d a x. x;
-  used = λ q d a x l. omega arith;
-  hub = λ q d a x l. omega arith;
-  hub-same = λ e q l. refl;
-  child-same = λ e q j m l. refl;
-}
+pub since-same : {b : Bool} {s : List ℕ} → Since b s s
+since-same = record { used = λ q l. omega arith; hub = λ q l. omega arith; hub-same = λ e q l. refl; child-same = λ e q j l. refl }
 
-pub held-edit : {n : Span} {s t : List ℕ} {w : World} → Held n s w → Edit n.exact w.store t → Held n s (with_store t w)
+pub held-edit : {b : Bool} {s t : List ℕ} {w : World} → Held b s w → Edit b w.store t → Held b s (with_store t w)
 held-edit h d = record { sound = edit-sound h.sound d; since = since-join h.since (edit-since h.sound d) }
 
 pub some-place : {s : List ℕ} {p k : ℕ} → At s p k → At s p 0
 some-place u = record { inside = u.inside; used = u.used; hub = omega arith }
 
-pub as_place : {n : Span} {s : List ℕ} {p k : ℕ} → On n s p k → On n s p 0
-as_place u = record { at = some-place u.at; deep = u.deep; low = u.low; depth = u.depth }
-
-module _ {n : Span} {s : List ℕ} where
+module _ {b : Bool} {s : List ℕ} where
   -- ---- the store
 
-  pub gets : (p f : ℕ) → Keeps (Held n s) (get p f) Any
+  pub gets : (p f : ℕ) → Keeps (Held b s) (get p f) Any
   unfolding get
   gets p f = peeks _
 
-  pub gets-number : (p f m : ℕ) → Keeps (Held n s) (get_number p f m) Any
+  pub gets-number : (p f n : ℕ) → Keeps (Held b s) (get_number p f n) Any
   unfolding get_number
-  gets-number p f m = peeks _
+  gets-number p f n = peeks _
 
-  pub gets-bytes : (p f m : ℕ) → Keeps (Held n s) (get_bytes p f m) (λ bytes. length bytes ≤ m)
+  pub gets-bytes : (p f n : ℕ) → Keeps (Held b s) (get_bytes p f n) (λ bytes. length bytes ≤ n)
   unfolding get_bytes
-  gets-bytes p f m = looks _ (λ w h. bytes_most w.store p f m)
+  gets-bytes p f n = looks _ (λ w h. bytes_most w.store p f n)
 
-  pub gets-own : {p k : ℕ} → On n s p k → Keeps (Held n s) (get p number_field) (λ v. OneOf v (0 ∷ (p + 1) ∷ []))
+  pub gets-own : {p k : ℕ} → At s p k → Keeps (Held b s) (get p number_field) (λ v. OneOf v (0 ∷ (p + 1) ∷ []))
   unfolding get
-  gets-own {p} u = looks _ (λ w h. h.sound.number p u.at.inside)
+  gets-own {p} u = looks _ (λ w h. h.sound.number p u.inside)
 
-  pub gets-most : {p k : ℕ} → On n s p k → Keeps (Held n s) (get p max_children_field) (λ v. v ≤ 10)
+  pub gets-most : {p k : ℕ} → At s p k → Keeps (Held b s) (get p max_children_field) (λ v. v ≤ 10)
   unfolding get
-  gets-most {p} u = looks _ (λ w h. h.sound.max-children p u.at.inside)
+  gets-most {p} u = looks _ (λ w h. h.sound.max-children p u.inside)
 
-  pub puts : {p k : ℕ} → On n s p k → (f v : ℕ) → ((h : ℕ) → k ≤ h → May n.exact h p f v) → (f + 1 ≤ 8) ⊎ (12 ≤ f)
-      → Keeps (Held n s) (put p f v) Any
+  pub puts : {p k : ℕ} → At s p k → (f v : ℕ) → ((h : ℕ) → k ≤ h → May b h p f v) → (f + 1 ≤ 8) ⊎ (12 ≤ f)
+      → Keeps (Held b s) (put p f v) Any
   unfolding put_bytes
   puts u f v may clear =
       changes _ (λ w h. let a = later h.since u in held-edit h (byte-edit h.sound (some-place a) f v (may _ a.hub) clear))
 
-  pub puts-bytes : {p k : ℕ} → On n s p k → (f : ℕ) (vs : List ℕ) → f + length vs ≤ 1152
-      → ((h i : ℕ) → k ≤ h → i < length vs → May n.exact h p (f + i) (get_or vs i 0)) → (f + length vs ≤ 8) ⊎ (12 ≤ f)
-      → Keeps (Held n s) (put_bytes p f vs) Any
+  pub puts-bytes : {p k : ℕ} → At s p k → (f : ℕ) (vs : List ℕ) → f + length vs ≤ 1152
+      → ((h i : ℕ) → k ≤ h → i < length vs → May b h p (f + i) (get_or vs i 0)) → (f + length vs ≤ 8) ⊎ (12 ≤ f)
+      → Keeps (Held b s) (put_bytes p f vs) Any
   unfolding put_bytes
   puts-bytes u f vs room may clear =
       changes _
       (λ w h. let a = later h.since u in held-edit h (plain-edit h.sound (some-place a) f vs room (λ i l. may _ i a.hub l) clear))
 
-  puts-error : {p k : ℕ} → On n s p k → (v : ℕ) → OneOf v errors → v < 256 ^ 4 → Keeps (Held n s) (put_number p 8 4 v) Any
+  puts-error : {p k : ℕ} → At s p k → (v : ℕ) → OneOf v errors → v < 256 ^ 4 → Keeps (Held b s) (put_number p 8 4 v) Any
   unfolding put_bytes
   puts-error u v listed l = changes _ (λ w h. held-edit h (error-edit h.sound (some-place (later h.since u)) v listed l))
 
-  puts-last : {p k : ℕ} → On n s p k → (v : ℕ) → Keeps (Held n s) (put_number p last_transfer_field 4 v) Any
+  puts-last : {p k : ℕ} → At s p k → (v : ℕ) → Keeps (Held b s) (put_number p last_transfer_field 4 v) Any
   unfolding put_bytes
   puts-last u v =
       changes _
@@ -104,20 +93,20 @@ module _ {n : Span} {s : List ℕ} where
 
   -- ---- the log
 
-  logs : (action : List ℕ) → Keeps (Held n s) (log_action action) Any
+  logs : (action : List ℕ) → Keeps (Held b s) (log_action action) Any
   unfolding log_action
   logs action =
       bind (peeks _) λ room _. next (whens _ (stops _)) (changes (appended action) (λ w h. record { sound = h.sound; since = h.since }))
 
-  sends : (action : List ℕ) → Keeps (Held n s) (log_request action) Any
+  sends : (action : List ℕ) → Keeps (Held b s) (log_request action) Any
   unfolding log_request
   sends action = next (logs action) (changes counted (λ w h. record { sound = h.sound; since = h.since }))
 
-  pub waits : (microseconds : ℕ) → Keeps (Held n s) (micro_delay microseconds) Any
+  pub waits : (microseconds : ℕ) → Keeps (Held b s) (micro_delay microseconds) Any
   unfolding micro_delay
   waits microseconds = logs _
 
-  pub frames : Keeps (Held n s) dwc_update_host_frame_interval Any
+  pub frames : Keeps (Held b s) dwc_update_host_frame_interval Any
   unfolding dwc_update_host_frame_interval
   frames = logs _
 
@@ -148,8 +137,8 @@ pub record Fits (k : ℕ) (b : Buffer) : Type 0 where
   pub clear : (b.field + b.room ≤ 8) ⊎ (12 ≤ b.field)
   pub may : (c : Bool) (h p g v : ℕ) → k ≤ h → b.field ≤ g → g < b.field + b.room → May c h p g v
 
-module _ {n : Span} {s : List ℕ} where
-  takes : (asked : ℕ) → Keeps (Held n s) (take_outcome asked) (λ o. Word o.error)
+module _ {b : Bool} {s : List ℕ} where
+  takes : (asked : ℕ) → Keeps (Held b s) (take_outcome asked) (λ o. Word o.error)
   unfolding take_outcome
   takes asked =
       bind (peeks _) λ rest _.
@@ -159,15 +148,15 @@ module _ {n : Span} {s : List ℕ} where
       next (changes (taken _) (λ w h. record { sound = h.sound; since = h.since }))
       (gives _ (listed-word (get_or rest 0 0) (get_or rest 1 0) (not-false _ e)))))
 
-  delivers : {p k : ℕ} → On n s p k → {c : Buffer} → Fits k c → (vs : List ℕ)
-      → Keeps (Held n s) (put_bytes p c.field (take c.room vs)) Any
+  delivers : {p k : ℕ} → At s p k → {c : Buffer} → Fits k c → (vs : List ℕ)
+      → Keeps (Held b s) (put_bytes p c.field (take c.room vs)) Any
   delivers u {c} fits vs =
       let long = length-take c.room vs in
       puts-bytes u c.field (take c.room vs) (omega (arith, long, fits.room)) (λ h i l m. fits.may _ h _ _ _ l (omega arith) (omega (arith, long)))
       (⊎_elim (λ x. inl (omega (arith, long))) (λ x. inr x) fits.clear)
 
-  module _ {p k : ℕ} (u : On n s p k) {c : Buffer} (fits : Fits k c) (q : UsbDeviceRequest) where
-    pub messages : (address : ℕ) → Keeps (Held n s) (usb_control_message p address q c) Any
+  module _ {p k : ℕ} (u : At s p k) {c : Buffer} (fits : Fits k c) (q : UsbDeviceRequest) where
+    pub messages : (address : ℕ) → Keeps (Held b s) (usb_control_message p address q c) Any
     unfolding usb_control_message
     messages address =
         bind (gets p _) λ speed _. bind (gets p _) λ size _.
@@ -175,10 +164,10 @@ module _ {n : Span} {s : List ℕ} where
         bind (takes _) λ o w.
         next (puts-error u _ w.word w.fits) (next (delivers u fits _) (next (puts-last u _) (next (succeeds _) (gives _ tt)))))
 
-    pub controls : Keeps (Held n s) (control p q c) Any
+    pub controls : Keeps (Held b s) (control p q c) Any
     unfolding control
     controls = bind (gets p _) λ address _. messages address
 
-    pub reads : (minimum : ℕ) → Keeps (Held n s) (read p q minimum c) Any
+    pub reads : (minimum : ℕ) → Keeps (Held b s) (read p q minimum c) Any
     unfolding read
     reads minimum = bind controls λ bytes _. next (whens _ (throws _)) (gives bytes tt)

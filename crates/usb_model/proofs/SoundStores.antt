@@ -16,10 +16,8 @@ use Rattle.usb_store.proofs.Cells.{other_place, byte-else, Cell, kept, written, 
 use Rattle.usb_place.specs.Rules.{OneOf, speeds, statuses, errors, hubs}
 use Rattle.usb_place.specs.Test.{one_of, every}
 use Rattle.usb_place.proofs.Tests.{one-decides, every-decides}
-use Rattle.usb_sound.specs.Sound.{IsUsed, IsChild, ParentFits, Depth, ChildOnce, Sound}
-use Rattle.usb_sound.proofs.Depths.{depth-more}
+use Rattle.usb_sound.specs.Sound.{IsUsed, IsChild, ParentFits, ChildOnce, Sound}
 use Rattle.usb_sound.proofs.Hubs.{byte-used}
-use Rattle.usb_model.proofs.Stores.{Span}
 
 -- ---- the rules on single bytes
 
@@ -42,8 +40,7 @@ pub record Tree (s : List ℕ) : Type 0 where
   pub children : (h q p : ℕ) → h < 32 → q < 10 → IsChild s h q p → IsUsed s p
   pub root : (h q : ℕ) → h < 32 → q < 10 → IsChild s h q 0 → ⊥
   pub child : (p : ℕ) → 0 < p → IsUsed s p → ChildOnce s p
-  pub first : (p : ℕ) → IsUsed s p → IsUsed s 0
-  pub reaches : (p : ℕ) → IsUsed s p → (n : ℕ) × Depth s p n
+  pub packed : (p q : ℕ) → p < q → IsUsed s q → IsUsed s p
   pub root-parent : byte_at s 0 parent_field ≡ 0
 
 -- where all numbers below n are listed
@@ -101,8 +98,7 @@ module _ {s t : List ℕ} (r : Sound s) (c : Cells s t) where
     children = tree.children;
     root = tree.root;
     child = tree.child;
-    first = tree.first;
-    reaches = tree.reaches;
+    packed = tree.packed;
     root-parent = tree.root-parent;
     no-hub = no-hub;
     no-descriptor = no-descriptor;
@@ -112,13 +108,12 @@ module _ {s t : List ℕ} (r : Sound s) (c : Cells s t) where
 
 -- ---- a store later than another
 
--- places to the depth of n stay where they stand, and used, and their hub bytes do not fall; where n is exact, hub bytes and children stay
-pub record Since (n : Span) (s t : List ℕ) : Type 0 where
-  pub depth : (p d : ℕ) → d ≤ n.deep → Depth s p d → Depth t p d
-  pub used : (p d : ℕ) → d ≤ n.deep → Depth s p d → p < 32 → byte_at s p used_field ≤ byte_at t p used_field
-  pub hub : (p d : ℕ) → d ≤ n.deep → Depth s p d → p < 32 → byte_at s p hub_field ≤ byte_at t p hub_field
-  pub hub-same : n.exact ≡ true → (p : ℕ) → p < 32 → byte_at t p hub_field ≡ byte_at s p hub_field
-  pub child-same : n.exact ≡ true → (p j : ℕ) → p < 32 → j < 10 → byte_at t p (child_field j) ≡ byte_at s p (child_field j)
+-- used places stay used and hub bytes do not fall; with b, hub bytes and children stay
+pub record Since (b : Bool) (s t : List ℕ) : Type 0 where
+  pub used : (p : ℕ) → p < 32 → byte_at s p used_field ≤ byte_at t p used_field
+  pub hub : (p : ℕ) → p < 32 → byte_at s p hub_field ≤ byte_at t p hub_field
+  pub hub-same : b ≡ true → (p : ℕ) → p < 32 → byte_at t p hub_field ≡ byte_at s p hub_field
+  pub child-same : b ≡ true → (p j : ℕ) → j < 10 → byte_at t p (child_field j) ≡ byte_at s p (child_field j)
 
 -- a place that is used, with a hub byte of k or more
 pub record At (s : List ℕ) (p k : ℕ) : Type 0 where
@@ -126,22 +121,8 @@ pub record At (s : List ℕ) (p k : ℕ) : Type 0 where
   pub used : 1 ≤ byte_at s p used_field
   pub hub : k ≤ byte_at s p hub_field
 
--- such a place, no deeper than n says
-pub record On (n : Span) (s : List ℕ) (p k : ℕ) : Type 0 where
-  pub at : At s p k
-  pub deep : ℕ
-  pub low : deep ≤ n.deep
-  pub depth : Depth s p deep
-
-pub later : {n : Span} {s t : List ℕ} {p k : ℕ} → Since n s t → On n s p k → At t p k
-later {p} o u = record {
-  inside = u.at.inside;
-  used = omega (arith, u.at.used, o.used p u.deep u.low u.depth u.at.inside);
-  hub = omega (arith, u.at.hub, o.hub p u.deep u.low u.depth u.at.inside);
-}
-
-pub later-on : {n : Span} {s t : List ℕ} {p k : ℕ} → Since n s t → On n s p k → On n t p k
-later-on {p} o u = record { at = later o u; deep = u.deep; low = u.low; depth = o.depth p u.deep u.low u.depth }
+pub later : {b : Bool} {s t : List ℕ} {p k : ℕ} → Since b s t → At s p k → At t p k
+later {p} o u = record { inside = u.inside; used = omega (arith, u.used, o.used p u.inside); hub = omega (arith, u.hub, o.hub p u.inside) }
 
 pub is-used : {s : List ℕ} {p k : ℕ} → Sound s → At s p k → IsUsed s p
 is-used {s} {p} r u = (u.inside, byte-used s r p used_field u.inside (omega arith) (λ e. omega (arith, e, u.used)))
@@ -158,16 +139,15 @@ pub record Edit (b : Bool) (s t : List ℕ) : Type 0 where
   pub parent : (h j p : ℕ) → h < 32 → j < 10 → IsChild s h j p → ParentFits s h j p → ParentFits t h j p
   pub root-parent : byte_at t 0 parent_field ≡ 0
 
-pub edit-since : {n : Span} {s t : List ℕ} → Sound s → Edit n.exact s t → Since n s t
-edit-since {n} {s} {t} r d = record {
-  depth = λ p i l x. depth-more s t (λ h q c a m z. d.child h q m ∙ z) x;
-  used = λ p i l x m. omega (arith, d.used p);
-  hub = λ p i l x m. hub-grows r d.cells p m;
-  hub-same = d.hub;
-  child-same = λ e p j m l. d.child p j l;
-}
-
 module _ {b : Bool} {s t : List ℕ} (r : Sound s) (d : Edit b s t) where
+  pub edit-since : Since b s t
+  edit-since = record {
+    used = λ p l. omega (arith, d.used p);
+    hub = hub-grows r d.cells;
+    hub-same = d.hub;
+    child-same = λ e p j l. d.child p j l;
+  }
+
   was-used : (p : ℕ) → IsUsed t p → IsUsed s p
   was-used p u = (u.0, sym (d.used p) ∙ u.1)
 
@@ -181,12 +161,12 @@ module _ {b : Bool} {s t : List ℕ} (r : Sound s) (d : Edit b s t) where
   stands p u c = record {
     hub = c.hub;
     port = c.port;
-    inside = c.inside;
+    smaller = c.smaller;
     within = c.within;
-    is-hub = λ z. c.is-hub (omega (arith, z, hub-grows r d.cells c.hub c.inside));
+    is-hub = λ z. c.is-hub (omega (arith, z, hub-grows r d.cells c.hub (omega (arith, c.smaller, u.0))));
     stands = d.child c.hub c.port c.within ∙ c.stands;
     once = λ h q a l e. c.once h q a l (was-child h q p l e);
-    parent = d.parent c.hub c.port p c.inside c.within c.stands c.parent;
+    parent = d.parent c.hub c.port p (omega (arith, c.smaller, u.0)) c.within c.stands c.parent;
   }
 
   pub edit-sound : Sound t
@@ -196,8 +176,7 @@ module _ {b : Bool} {s t : List ℕ} (r : Sound s) (d : Edit b s t) where
     children = λ h q p a l e. still-used p (r.children h q p a l (was-child h q p l e));
     root = λ h q a l e. r.root h q a l (was-child h q 0 l e);
     child = λ p l u. stands p (was-used p u) (r.child p l (was-used p u));
-    first = λ p u. still-used 0 (r.first p (was-used p u));
-    reaches = λ p u. let e = r.reaches p (was-used p u) in (e.0, depth-more s t (λ h q c a l x. d.child h q l ∙ x) e.1);
+    packed = λ p q l u. still-used p (r.packed p q l (was-used q u));
     root-parent = d.root-parent;
   })
 
@@ -331,8 +310,7 @@ module _ {s : List ℕ} (r : Sound s) {p : ℕ} (u : At s p 0) (h j : ℕ) (insi
 
   here : (byte_at with-parent p parent_field ≡ h + 1) × (byte_at with-parent p port_number_field ≡ j)
   here = (
-    byte-else (with_byte s p parent_field (h + 1)) p port_number_field j p parent_field (omega arith) (omega arith) (λ a (e : ◌≡◌ {A = ℕ} 6 5). omega arith)
-        ∙ byte-same s p parent_field (h + 1) parent-within,
+    byte-else (with_byte s p parent_field (h + 1)) p port_number_field j p parent_field (omega arith) (omega arith) (λ a (e : ◌≡◌ {A = ℕ} 6 5). omega arith) ∙ byte-same s p parent_field (h + 1) parent-within,
     byte-same (with_byte s p parent_field (h + 1)) p port_number_field j port-within,
   )
 

@@ -17,7 +17,7 @@ use Rattle.usb_model.specs.Kept.{Good}
 use Rattle.usb_model.specs.History.{Event}
 use Rattle.usb_model.proofs.Keeps.{Any}
 use Rattle.usb_model.proofs.Bytes.{byte-at}
-use Rattle.usb_model.proofs.Stores.{upto, Follows, store-good}
+use Rattle.usb_model.proofs.Stores.{Follows, store-good}
 use Rattle.usb_model.proofs.Reading.{Reads}
 
 module _ (h₀ : List Event) where
@@ -168,7 +168,7 @@ module _ {h₀ : List Event} where
   -- ---- writes to the store
 
   -- the state with another store, which follows its own
-  abbrev pub stored : (s : State h₀) (t : List ℕ) → Follows (upto 0) (store s) t → State h₀
+  abbrev pub stored : (s : State h₀) (t : List ℕ) → Follows (store s) t → State h₀
   stored s t f = record {
     world = with_store t s.world;
     past = s.past;
@@ -177,7 +177,7 @@ module _ {h₀ : List Event} where
   }
 
   pub does-store : {P N Q : State h₀ → Type 0} (g : List ℕ → List ℕ)
-      → ((s : State h₀) → P s → (f : Follows (upto 0) (store s) (g (store s))) × Q (stored s (g (store s)) f))
+      → ((s : State h₀) → P s → (f : Follows (store s) (g (store s))) × Q (stored s (g (store s)) f))
       → Does P (change (λ w. with_store (g w.store) w)) (λ _. Q) N
   unfolding change
   does-store g h = record { run = λ s p. fine (stored s (g (store s)) (h s p).0) (h s p).1 }
@@ -257,7 +257,7 @@ module _ {h₀ : List Event} where
     k-each zero from h = k_skip
     k-each (suc k) from h = k-next (h from (omega arith)) (k-each k (from + 1) (λ i l. h i (omega arith)))
 
-    pub k-store : (g : List ℕ → List ℕ) → ((s : State h₀) → (f : Follows (upto 0) (store s) (g (store s))) × R s (stored s (g (store s)) f))
+    pub k-store : (g : List ℕ → List ℕ) → ((s : State h₀) → (f : Follows (store s) (g (store s))) × R s (stored s (g (store s)) f))
         → Keeps R (change (λ w. with_store (g w.store) w))
     unfolding change
     k-store g h = record { run = λ s. fine (stored s (g (store s)) (h s).0) ((h s).1, tt) }

@@ -31,7 +31,7 @@ logged_world w action requests = record {
   store = w.store;
   log = write w.log w.at.logged action;
   outcomes = w.outcomes;
-  at = record { logged = w.at.logged + 16; taken = w.at.taken; requests = requests; unplugged = w.at.unplugged };
+  at = record { logged = w.at.logged + 16; taken = w.at.taken; requests = requests };
 }
 
 pub data Logs (action : List ℕ) (w : World) (requests : ℕ) : Ran World (Unit {0}) → Type 0 where

@@ -25,11 +25,11 @@ usb_attach_device attach place = do
   class ← get place interface_class_field
   when (is_hub_class class) (hub_attach attach place)
 
--- "A hub's attach starts its children's, which may start a hub's again": the number bounds the places that are not on the way from the
--- device up to place 0, so attach_below 0 is never run (proofs/Cycle.antt, `attach-fuel`)
+-- "A hub's attach starts its children's, which may start a hub's again. Free places fall": the number bounds the free places, and a
+-- device is attached only after it has taken one, so attach_below 0 is never run (proofs/Cycle.antt, `attach-fuel`)
 unfoldable pub attach_below : ℕ → ℕ → M (Unit {0})
 attach_below zero place = skip
-attach_below (suc below) place = usb_attach_device (attach_below below) place
+attach_below (suc free) place = usb_attach_device (attach_below free) place
 
 -- the attach of a new device, on any store
 abbrev pub attach_new : ℕ → M (Unit {0})

@@ -15,17 +15,11 @@
 --     "was reset; that reset ended well"                                                              EndedWell
 --     "then, with no reset of any port between"                                                       NoResetSince
 --     "its address was set and acknowledged"                                                          Addressed
---     "just once in the history"                                                                      count (sets_address ..) .. ≡ 1
---     "Every acknowledged SetConfiguration belongs to a device so shown"                              Belongs
--- Document 02 e) changes it:
---     "The history of a configured device begins with the port reset before its place was last taken" recent
---     "A device unplugged since counts as shown where an acknowledged SetConfiguration is looked up"  LeftSince
--- and what is claimed besides: the tree that the history shows is the store's (Demand, field tree); a port at which a device of that
--- tree stands is never reset (field vacant).
+--     "just once in the history"                                                                      count (sets_address ..) h ≡ 1
+--     "Every acknowledged SetConfiguration belongs to a device so shown"                              Demand, field belongs
 --     "Each root attach .. sent at most 8·d + 444·h requests"                                         Bounded
---     "A scan sends at most 8·d + 904·h requests"                                                     ScanBounded
 -- Reached s h: after the list the store is s and the history is h. Demand3 is the whole claim; proofs/Demand3.antt proves it.
-use Rattle.std.specs.Prelude.{◌≡◌, true, false, ◌⊎◌, ◌↔◌, List, [], ◌∷◌, ℕ, suc, ◌+◌, ◌*◌, ◌≤◌, ◌<◌, length}
+use Rattle.std.specs.Prelude.{◌≡◌, true, false, List, [], ◌∷◌, ℕ, suc, ◌+◌, ◌*◌, ◌≤◌, ◌<◌, length}
 use Rattle.usb_types.specs.Numbers.{from_little_endian}
 use Rattle.usb_types.specs.Requests.{get_status_code, clear_feature_code, set_feature_code, set_address_code, set_configuration_code, to_device, to_port, device_request}
 use Rattle.usb_types.specs.declared.types.ErrorCode.{ErrorCode}
@@ -33,9 +27,8 @@ use Rattle.usb_types.specs.declared.request.UsbDeviceRequest.{UsbDeviceRequest}
 use Rattle.usb_store.specs.Layout.{place_count, status_field, configuration_value_field, ports_per_hub, empty_store}
 use Rattle.usb_store.specs.Access.{byte_at}
 use Rattle.usb_store.specs.Values.{configured_status}
-use Rattle.usb_store.specs.Values as Values
 use Rattle.usb_sound.specs.Sound.{IsUsed, IsChild, Sound}
-use Rattle.usb_model.specs.Programs.{Ran, done, fail, end_of}
+use Rattle.usb_model.specs.Programs.{Ran, done, fail}
 use Rattle.usb_model.specs.World.{World, M}
 use Rattle.usb_model.specs.Features.{port_reset, c_port_reset, bit}
 use Rattle.usb_model.specs.Transfer.{Outcome}
@@ -43,8 +36,8 @@ use Rattle.usb_model.specs.Hub.{hub_check_connection, hub_check_for_change}
 use Rattle.usb_model.specs.Attach.{attach_new, usb_attach_root_hub}
 use Rattle.usb_model.specs.Entry.{Lent, Left, Verdict, accepted, no_port, root_verdict, hub_verdict, start, call}
 use Rattle.usb_model.specs.Kept.{LentBytes}
-use Rattle.usb_model.specs.Count.{most_requests, most_of_scan, store_left}
-use Rattle.usb_model.specs.History.{Event, asked, waited, joined, acknowledged, sets_address, configures, resets, hub_of, number_of, count, recent, Stand, standing, tree_of}
+use Rattle.usb_model.specs.Count.{most_requests, store_left}
+use Rattle.usb_model.specs.History.{Event, asked, waited, joined, acknowledged, sets_address, configures, resets, count}
 
 -- ---- the list of calls
 
@@ -95,11 +88,6 @@ pub data Once (P : List Event → Type 0) : List Event → Type 0 where
 pub data NoResetSince (P : List Event → Type 0) : List Event → Type 0 where
   just : {h : List Event} → P h → NoResetSince P h
   since : {e : Event} {h : List Event} → resets e ≡ false → NoResetSince P h → NoResetSince P (e ∷ h)
-
--- the moment m, or a later one
-pub data From (m : List Event) : List Event → Type 0 where
-  there : From m m
-  then : {e : Event} {h : List Event} → From m h → From m (e ∷ h)
 
 -- ---- a reset that ended well
 
@@ -152,51 +140,13 @@ abbrev pub Anything : List Event → Type 0
 Anything h = Unit {0}
 
 -- "for each but the root hub: its hub's port was reset; that reset ended well; then, with no reset of any port between, its address was
--- set and acknowledged, just once in the history". "the stored value is byte 5 of the configuration descriptor". A history of its own
--- begins with the last reset that was sent to its port.
+-- set and acknowledged, just once in the history". "the stored value is byte 5 of the configuration descriptor".
 pub data Story (s : List ℕ) (place : ℕ) (h : List Event) : Type 0 where
   root : place ≡ 0 → Once (ConfiguredWith place (byte_at s place configuration_value_field) Anything) h → Story s place h
   child : {hub port : ℕ} → Stands s hub port place
-      → Once (ConfiguredWith place (byte_at s place configuration_value_field) (Once (Addressed place (NoResetSince (EndedWell (hub + 1) port)))))
-      (recent (hub + 1) (port + 1) h)
-      → count (sets_address (place + 1)) (recent (hub + 1) (port + 1) h) ≡ 1
+      → Once (ConfiguredWith place (byte_at s place configuration_value_field) (Once (Addressed place (NoResetSince (EndedWell (hub + 1) port))))) h
+      → count (sets_address (place + 1)) h ≡ 1
       → Story s place h
-
--- ---- the tree
-
-pub data Has (t : Stand) : List Stand → Type 0 where
-  newest : {ts : List Stand} → Has t (t ∷ ts)
-  older : {u : Stand} {ts : List Stand} → Has t ts → Has t (u ∷ ts)
-
--- the port to which an event goes has no device of the tree
-abbrev pub Vacant : Event → List Event → Type 0
-Vacant e h = (t : Stand) → Has t (tree_of h) → t.hub ≡ hub_of e → t.port ≡ number_of e → ⊥
-
--- a device of the tree, as the store shows it: it stands at that port, and its status is Addressed or Configured
-pub record ShownAt (s : List ℕ) (t : Stand) : Type 0 where
-  pub hub : ℕ
-  pub port : ℕ
-  pub place : ℕ
-  pub is : t ≡ standing (hub + 1) (port + 1) (place + 1)
-  pub stands : Stands s hub port place
-  pub status : (byte_at s place status_field ≡ Values.addressed_status) ⊎ (byte_at s place status_field ≡ configured_status)
-
--- a device with that address is in the tree
-pub record Present (address : ℕ) (ts : List Stand) : Type 0 where
-  pub stand : Stand
-  pub is : stand.address ≡ address
-  pub has : Has stand ts
-
--- after the moment m it was there, and with the event that came next it was not
-pub data LeftSince (address : ℕ) (m : List Event) : List Event → Type 0 where
-  left : {e : Event} {h : List Event} → From m h → Present address (tree_of h) → (Present address (tree_of (e ∷ h)) → ⊥)
-      → LeftSince address m (e ∷ h)
-  earlier : {e : Event} {h : List Event} → LeftSince address m h → LeftSince address m (e ∷ h)
-
--- "Every acknowledged SetConfiguration belongs to a device so shown", or to one that was unplugged since; m is the moment after it
-pub data Belongs (s : List ℕ) (address : ℕ) (m h : List Event) : Type 0 where
-  shown : (place : ℕ) → address ≡ place + 1 → ShownConfigured s place → Belongs s address m h
-  unplugged : LeftSince address m h → Belongs s address m h
 
 pub record Demand (s : List ℕ) (h : List Event) : Type 0 where
   -- a sound store, so no later call of the list is refused as damaged (−16), and what has children is a hub
@@ -205,12 +155,8 @@ pub record Demand (s : List ℕ) (h : List Event) : Type 0 where
   -- the hub and port of a device are one
   pub single : (hub port hub' port' place : ℕ) → Stands s hub port place → Stands s hub' port' place
       → (hub ≡ hub') × (port ≡ port')
-  -- "Every acknowledged SetConfiguration belongs to a device so shown"; "A device unplugged since counts as shown"
-  pub belongs : (address : ℕ) (e : Event) (m : List Event) → From (e ∷ m) h → configures address e ≡ true → Belongs s address (e ∷ m) h
-  -- the tree that the history shows is the store's
-  pub tree : (t : Stand) → Has t (tree_of h) ↔ ShownAt s t
-  -- a port at which a device of the tree stands is never reset
-  pub vacant : (e : Event) (m : List Event) → From (e ∷ m) h → resets e ≡ true → Vacant e m
+  -- "Every acknowledged SetConfiguration belongs to a device so shown"
+  pub belongs : (address : ℕ) → 0 < count (configures address) h → (place : ℕ) × (address ≡ place + 1) × ShownConfigured s place
 
 -- "Each root attach, in the list or stopped, leaving d devices, h of them hubs, sent at most 8·d + 444·h requests". What a call reports are
 -- the actions of kind 1 in its log (Kept.antt, `Accounts`).
@@ -220,13 +166,5 @@ Bounded s =
     → let left = entry (attaches speed) lent in
     left.requests ≤ most_requests (store_left (verdict (attaches speed) lent) lent left)
 
--- document 02 e): "A scan sends at most 8·d + 904·h requests", stopped or not; the events are the scan's own
-abbrev pub ScanBounded : List ℕ → Type 0
-ScanBounded s =
-    (hub : ℕ) (lent : Lent) → lent.old ≡ s → LentBytes lent → verdict (scans hub) lent ≡ accepted
-    → (n : ℕ) → (end_of (program (scans hub) (start lent))).at.logged ≡ 16 * n
-    → let w = end_of (program (scans hub) (start lent)) in
-    w.at.requests ≤ most_of_scan s (joined n w.log lent.outcomes [])
-
 abbrev pub Demand3 : Type 0
-Demand3 = (s : List ℕ) (h : List Event) → Reached s h → Demand s h × Bounded s × ScanBounded s
+Demand3 = (s : List ℕ) (h : List Event) → Reached s h → Demand s h × Bounded s

@@ -86,7 +86,7 @@ start lent = record {
   store = lent.old;
   log = lent.log;
   outcomes = lent.outcomes;
-  at = record { logged = 0; taken = 0; requests = 0; unplugged = 0 };
+  at = record { logged = 0; taken = 0; requests = 0 };
 }
 
 abbrev pub leaves : ℤ → World → Left

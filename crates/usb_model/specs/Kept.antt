@@ -1,11 +1,11 @@
 -- What holds of every world that a call passes through, between an earlier and a later one, and of what a call leaves. proofs/ has
 -- it for every function and every entry point.
-use Rattle.std.specs.Prelude.{◌≡◌, Bool, cond, ◌&&◌, List, ℕ, zero, suc, ◌+◌, ◌*◌, ◌≤◌, ◌<◌, eqb, ltb, ℤ, length, get_or, drop}
+use Rattle.std.specs.Prelude.{◌≡◌, Bool, cond, ◌&&◌, ◌≢◌, List, ℕ, zero, suc, ◌+◌, ◌*◌, ◌≤◌, ◌<◌, eqb, ltb, ℤ, length, get_or, drop}
 use Rattle.usb_types.specs.Actions.{action_length}
 use Rattle.usb_types.specs.Numbers.{minus}
-use Rattle.usb_store.specs.Layout.{store_length, max_children_field, ports_per_hub}
+use Rattle.usb_store.specs.Layout.{store_length, child_field, max_children_field, ports_per_hub}
 use Rattle.usb_store.specs.Access.{write, byte_at}
-use Rattle.usb_unplug.specs.Tree.{Rooted}
+use Rattle.usb_device.specs.Device.{first_unused, free_places}
 use Rattle.usb_model.specs.World.{World}
 use Rattle.usb_model.specs.Entry.{Lent, Left, WalkLeft}
 
@@ -25,6 +25,11 @@ requests_in n log = kinds_in (λ kind. eqb kind 1) n log
 abbrev pub is_kind : ℕ → Bool
 is_kind kind = ltb 0 kind && ltb kind 4
 
+-- a child at port q of place h: it stands above its hub, and all places up to it are used
+pub record Above (s : List ℕ) (h q : ℕ) : Type 0 where
+  pub above : h + 1 < byte_at s h (child_field q)
+  pub used : byte_at s h (child_field q) ≤ first_unused s
+
 pub record Good (w : World) : Type 0 where
   pub whole : length w.store ≡ store_length
   pub logged : w.at.logged ≤ length w.log
@@ -33,13 +38,15 @@ pub record Good (w : World) : Type 0 where
   pub store : Bytes w.store
   pub log : Bytes w.log
   pub outcomes : Bytes w.outcomes
-  -- the rules of a sound store on which loops, unplugging and recursion rest: children and hubs are a tree
+  -- the rules of a sound store on which loops and recursion rest
   pub most : (h : ℕ) → byte_at w.store h max_children_field ≤ ports_per_hub
-  pub tree : Rooted w.store
+  pub child : (h q : ℕ) → q < ports_per_hub → byte_at w.store h (child_field q) ≢ 0 → Above w.store h q
 
 pub record Onward (w v : World) : Type 0 where
-  -- the store's length is kept
+  -- the store's length is kept, places are taken and not freed
   pub store : length v.store ≡ length w.store
+  pub free : free_places v.store ≤ free_places w.store
+  pub first : first_unused w.store ≤ first_unused v.store
   -- outcomes are taken forward only
   pub outcomes : v.outcomes ≡ w.outcomes
   pub taken : w.at.taken ≤ v.at.taken

@@ -24,7 +24,7 @@ taken n w = record {
   store = w.store;
   log = w.log;
   outcomes = w.outcomes;
-  at = record { logged = w.at.logged; taken = w.at.taken + n; requests = w.at.requests; unplugged = w.at.unplugged };
+  at = record { logged = w.at.logged; taken = w.at.taken + n; requests = w.at.requests };
 }
 
 -- what is left of the outcomes

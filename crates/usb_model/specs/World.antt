@@ -1,10 +1,9 @@
 -- What a call works on, and the few steps that every function is made of: access to the store, the log, waits.
-use Rattle.std.specs.Prelude.{Bool, not, List, [], ◌∷◌, ℕ, ◌+◌, ◌-◌, eqb, ltb, length}
+use Rattle.std.specs.Prelude.{List, [], ◌∷◌, ℕ, ◌+◌, ◌-◌, ltb, length}
 use Rattle.usb_types.specs.Actions.{wait_action, frame_interval_action, action_length}
 use Rattle.usb_types.specs.declared.types.Halt.TheVariants.{LogFull}
 use Rattle.usb_types.specs.Numbers.{little_endian}
 use Rattle.usb_store.specs.Access.{write, byte_at, bytes_at, number_at, with_bytes}
-use Rattle.usb_unplug.specs.Unplug.{unplugged}
 use Rattle.usb_model.specs.declared.Progress.{Progress}
 use Rattle.usb_model.specs.Programs.{Program, ◌>>=◌, ◌>>◌, stop, look, change, when}
 
@@ -41,22 +40,6 @@ put place field v = put_bytes place field (v ∷ [])
 abbrev pub put_number : ℕ → ℕ → ℕ → ℕ → M (Unit {0})
 put_number place field n v = put_bytes place field (little_endian n v)
 
--- document 02 e): "that child and everything beneath it leave the store"; that it happened is kept till the call ends
-abbrev pub without_child : ℕ → ℕ → World → World
-without_child hub port w = record {
-  store = unplugged w.store hub port;
-  log = w.log;
-  outcomes = w.outcomes;
-  at = record { logged = w.at.logged; taken = w.at.taken; requests = w.at.requests; unplugged = 1 };
-}
-
-unfoldable pub unplug : ℕ → ℕ → M (Unit {0})
-unplug hub port = change (without_child hub port)
-
--- was a device unplugged in this call?
-unfoldable pub has_unplugged : M Bool
-has_unplugged = look (λ w. not (eqb w.at.unplugged 0))
-
 -- ---- the log (document 01, "Action")
 
 -- 16 bytes further
@@ -65,7 +48,7 @@ appended action w = record {
   store = w.store;
   log = write w.log w.at.logged action;
   outcomes = w.outcomes;
-  at = record { logged = w.at.logged + action_length; taken = w.at.taken; requests = w.at.requests; unplugged = w.at.unplugged };
+  at = record { logged = w.at.logged + action_length; taken = w.at.taken; requests = w.at.requests };
 }
 
 -- "log full: an action is due and under 16 log bytes are left"
@@ -88,7 +71,7 @@ counted w = record {
   store = w.store;
   log = w.log;
   outcomes = w.outcomes;
-  at = record { logged = w.at.logged; taken = w.at.taken; requests = w.at.requests + 1; unplugged = w.at.unplugged };
+  at = record { logged = w.at.logged; taken = w.at.taken; requests = w.at.requests + 1 };
 }
 
 unfoldable pub log_request : List ℕ → M (Unit {0})

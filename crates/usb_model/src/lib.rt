@@ -1,13 +1,11 @@
 // What is right: specs/ defines every function of the driver and every entry point, proofs/ has the laws on them.
 
-// How far a call has come: bytes of the log written, bytes of the outcomes taken, requests logged; and 1 once a device was unplugged, 0
-// before. A word: a bool would leave padding, and copies of it would wait for the stores.
+// How far a call has come: bytes of the log written, bytes of the outcomes taken, requests logged.
 #[derive(Drop)]
 pub struct Progress {
     pub logged: usize,
     pub taken: usize,
     pub requests: usize,
-    pub unplugged: usize,
 }
 
 // Where the bytes that a transfer delivers go: at most room of them, to a field of the device.

@@ -1,28 +1,25 @@
 -- The ways through a scan, over plain values. Assumes nothing.
-use mathlib.Core.Path.{◌≡◌, refl}
-use mathlib.Core.Bool.{true, false, not, ◌||◌}
+use mathlib.Core.Path.{◌≡◌, refl, ◌∙◌}
 use Prim.Native.Nat.{ℕ, zero, suc, ◌+◌, ◌-◌, ◌≤◌, ◌<◌}
 use native.Mathlib.Omega.{arith}
-use lib.Dec.{eqb}
 use borrow.Author.Tests.{eq-eqb, ne_eqb}
-use Rattle.usb_types.specs.declared.types.ErrorCode.TheVariants.{Device}
 use Rattle.usb_types.specs.declared.types.Answer.{Answer}
 use Rattle.usb_types.specs.declared.types.Answer.TheVariants.{Ok, Error, Stop}
-use Rattle.usb_store.specs.Layout.{hub_field, child_field, max_children_field}
+use Rattle.usb_store.specs.Layout.{place_count, hub_field, child_field, max_children_field}
 use Rattle.usb_store.specs.Access.{byte_at}
-use Rattle.usb_sound.specs.Sound.{IsChild, down}
-use Rattle.usb_unplug.specs.Unplug.{off_way}
-use Rattle.usb_unplug.proofs.Ways.{off-child}
-use Rattle.usb_model.specs.Programs.{◌>>=◌, skip, throw, look, when, each}
-use Rattle.usb_model.specs.World.{World, M, get, has_unplugged}
+use Rattle.usb_device.specs.Device.{first_unused, free_places}
+use Rattle.usb_device.proofs.Free.{first-most}
+use Rattle.usb_model.specs.Programs.{◌>>=◌, each}
+use Rattle.usb_model.specs.World.{World, M, get}
 use Rattle.usb_model.specs.Hub.{hub_check_connection, scan_port, hub_check_for_change}
 use Rattle.usb_model.specs.Attach.{attach_below}
+use Rattle.usb_model.proofs.Pairs.{Alike}
 use Rattle.usb_model.proofs.Cycle.{scan-port, check-for-change}
 use Rattle.usb_hub.specs.Parts.{passed}
-use Rattle.usb_transfer.specs.Runs.{Fit, Ends}
+use Rattle.usb_transfer.specs.Runs.{Ends}
 use Rattle.usb_transfer.proofs.Steps.{NotOk, NotStop, bound, bound-ended, got, got-as, done-if, done-unless, attempted, attempt-stopped, Going}
 use Rattle.usb_driver.specs.Bus.{Bus}
-use Rattle.usb_driver.proofs.Reaches.{stood, After, after, at_place}
+use Rattle.usb_driver.proofs.Reaches.{After, after, at_place}
 
 module _ (attach below : ℕ → M (Unit {0})) (hub port : ℕ) {w v : World} where
   -- a failed check passes over the child
@@ -47,50 +44,13 @@ module _ (attach below : ℕ → M (Unit {0})) (hub port : ℕ) {w v : World} wh
     unfolding scan_port NotStop
     goes-below n z d = bound _ (attempted r tt) (got-as _ _ _ e (got _ _ _ (done-if (simp (ne_eqb child 0 n, ne_eqb _ 0 z)) d)))
 
--- ---- the check of a child
-
--- the last lines of `check_child`
-abbrev pub stands_still : ℕ → ℕ → ℕ → M (Unit {0})
-stands_still hub child port =
-    get hub (child_field port) >>= (λ stands. has_unplugged >>= (λ away. when (away || not (eqb stands (child + 1))) (throw Device)))
-
-module _ (hub child port : ℕ) {w : World} (f : Fit w) where
-  pub was-unplugged : (w.at.unplugged ≡ 0 → ⊥) → Ends (stands_still hub child port) w (Error Device) tt w
-  unfolding get look has_unplugged when throw ◌>>=◌
-  was-unplugged n = record { is = rw (ne_eqb _ 0 n) refl; fit = f }
-
-  module _ (e : w.at.unplugged ≡ 0) {stands : ℕ} (is : stands ≡ byte_at w.store hub (child_field port)) where
-    pub another-stands : (stands ≡ child + 1 → ⊥) → Ends (stands_still hub child port) w (Error Device) tt w
-    unfolding get look has_unplugged when throw ◌>>=◌
-    another-stands n = record { is = rw (e, ← is, ne_eqb stands (child + 1) n) refl; fit = f }
-
-    pub still-stands : stands ≡ child + 1 → Ends (stands_still hub child port) w Ok tt w
-    unfolding get look has_unplugged when skip ◌>>=◌
-    still-stands i = record { is = rw (e, ← is, eq-eqb stands (child + 1) i) refl; fit = f }
-
--- ---- a child
-
--- a child stands one deeper than its hub, at a used place
+-- a child stands above its hub, at a used place
 pub child-bus : (hub port child : ℕ) {v : World}
-    → Bus 1 hub v → port < 10 → child ≡ byte_at v.store hub (child_field port) → (child ≡ 0 → ⊥)
-    → (off_way v.store (child - 1) + 1 ≡ off_way v.store hub) × Bus 0 (child - 1) v
+    → Bus hub v → port < 10 → child ≡ byte_at v.store hub (child_field port) → (child ≡ 0 → ⊥) → (hub < child - 1) × Bus (child - 1) v
 child-bus hub port child {v} b l e n =
-    let stands : IsChild v.store hub port (child - 1) = omega (arith, e, n) in
-    let tree = b.good.tree in (
-      off-child v.store tree hub port (child - 1) b.used.0 l stands b.reaches.1,
-      record {
-        fit = b.fit;
-        good = b.good;
-        root = b.root;
-        used = tree.children hub port (child - 1) b.used.0 l stands;
-        reaches = (suc b.reaches.0, down b.used.0 l stands b.reaches.1);
-        hub = λ z. absurd (omega arith);
-      },
-    )
-
--- a place that is a hub
-pub hub-bus : {place : ℕ} {v : World} → Bus 0 place v → (byte_at v.store place hub_field ≡ 0 → ⊥) → Bus 1 place v
-hub-bus b h = record { fit = b.fit; good = b.good; root = b.root; used = b.used; reaches = b.reaches; hub = λ _. h }
+    let a = b.good.child hub port l (λ z. n (e ∙ z)) in
+    let used : child - 1 < first_unused v.store = omega (arith, a.above, a.used, e) in
+    (omega (arith, a.above, e), record { fit = b.fit; good = b.good; used = used; inside = omega (arith, used, first-most v.store) })
 
 -- ---- the ports of a hub, one after the other
 
@@ -100,20 +60,22 @@ scan n m hub port = scan_port (attach_below n) (hub_check_for_change (attach_bel
 abbrev pub scans_all : ℕ → ℕ → ℕ → ℕ → ℕ → M (Unit {0})
 scans_all n m hub count port = each count port (scan n m hub)
 
--- the number is larger than that of the places off the way, so it is not zero
-pub at_places : (n hub off m : ℕ) {w v : World} {a : Answer} → off < m
-    → ((k : ℕ) → off ≤ k → Ends (get hub max_children_field >>= (λ count. scans_all n k hub count 0)) w a tt v)
+-- places are left above the hub, so the number is not zero
+pub at_places : (n hub m : ℕ) {w v : World} {a : Answer} → hub < place_count → place_count ≤ hub + m
+    → ((k : ℕ) → place_count ≤ hub + suc k → Ends (get hub max_children_field >>= (λ count. scans_all n k hub count 0)) w a tt v)
     → Ends (hub_check_for_change (attach_below n) m hub) w a tt v
 unfolding hub_check_for_change
-at_places n hub off zero l f = absurd (omega arith)
-at_places n hub off (suc k) l f = f k (omega arith)
+at_places n hub zero h l f = absurd (omega arith)
+at_places n hub (suc k) h l f = f k l
 
 pub record Scanned (hub count port : ℕ) (w v : World) : Type 0 where
-  pub after : After 1 hub w v
-  pub goes : (n m : ℕ) → off_way w.store hub ≤ n → off_way w.store hub ≤ m
+  pub after : After hub w v
+  pub goes : (n m : ℕ) → free_places w.store ≤ n → place_count ≤ hub + suc m
       → Going (scans_all n m hub count 0) w (scans_all n m hub (count - port) port) v
 
-pub scanned-after : (n m : ℕ) {hub : ℕ} (port : ℕ) {w v : World} {a : Answer} → Bus 1 hub w → port < 10
-    → Ends (scan n m hub port) w a tt v → After 1 hub w v
-scanned-after n m {hub} port {w} b l e =
-    after b ((scan-port n hub port (stood b) l (λ v place i. check-for-change n v m place i)).run w (at_place b)).walk e
+scan-walks : {u : World} (free above n hub port : ℕ) → hub < n → port < 10 → Alike u n (scan free above hub port) (scan free above hub port)
+scan-walks free above n hub port h l = scan-port free hub port h l (λ v place _. check-for-change free v above place)
+
+pub scanned-after : (n m : ℕ) {hub : ℕ} (port : ℕ) {w v : World} {a : Answer} → Bus hub w → port < 10
+    → Ends (scan n m hub port) w a tt v → After hub w v
+scanned-after n m {hub} port {w} b l e = after b ((scan-walks n m (hub + 1) hub port (omega arith) l).run w (at_place b)).walk e

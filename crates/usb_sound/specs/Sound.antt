@@ -1,6 +1,5 @@
--- A sound store, rule by rule (document 01, "A sound store: .."; document 02 e), "A sound store may now have gaps, place 0 is used if any
--- is, and instead of the smaller-place rule, following hubs upward reaches place 0"). Definitions only.
-use Rattle.std.specs.Prelude.{◌≡◌, ◌⊎◌, ◌≢◌, List, [], ◌∷◌, ℕ, suc, ◌+◌, ◌≤◌, ◌<◌, length}
+-- A sound store, rule by rule (document 01, "A sound store: .."). Definitions only.
+use Rattle.std.specs.Prelude.{◌≡◌, ◌⊎◌, ◌≢◌, List, [], ◌∷◌, ℕ, ◌+◌, ◌≤◌, ◌<◌, length}
 use Rattle.usb_store.specs.Layout.{place_count, place_length, store_length, used_field, number_field, speed_field, status_field, port_number_field, parent_field, hub_field, error_field, hub_descriptor_field, child_field, max_children_field, ports_per_hub}
 use Rattle.usb_store.specs.Access.{byte_at, number_at}
 use Rattle.usb_store.specs.Values.{not_hub, hub_without_descriptor}
@@ -18,16 +17,11 @@ IsChild s h q p = byte_at s h (child_field q) ≡ p + 1
 abbrev pub ParentFits : List ℕ → ℕ → ℕ → ℕ → Type 0
 ParentFits s h q p = (byte_at s p parent_field ≡ 0) ⊎ ((byte_at s p parent_field ≡ h + 1) × (byte_at s p port_number_field ≡ q))
 
--- following hubs upward from place p reaches place 0, after n hubs
-pub data Depth (s : List ℕ) : ℕ → ℕ → Type 0 where
-  top : Depth s 0 0
-  down : {h q p n : ℕ} → h < place_count → q < ports_per_hub → IsChild s h q p → Depth s h n → Depth s p (suc n)
-
--- the place p is a child exactly once, of a hub; its parent is 0 or that hub, with that port
+-- the place p is a child exactly once, of a hub at a smaller place; its parent is 0 or that hub, with that port
 pub record ChildOnce (s : List ℕ) (p : ℕ) : Type 0 where
   pub hub : ℕ
   pub port : ℕ
-  pub inside : hub < place_count
+  pub smaller : hub < p
   pub within : port < ports_per_hub
   pub is-hub : byte_at s hub hub_field ≢ 0
   pub stands : IsChild s hub port p
@@ -54,12 +48,10 @@ pub record Sound (s : List ℕ) : Type 0 where
   pub children : (h q p : ℕ) → h < place_count → q < ports_per_hub → IsChild s h q p → IsUsed s p
   -- place 0 is nobody's child
   pub root : (h q : ℕ) → h < place_count → q < ports_per_hub → IsChild s h q 0 → ⊥
-  -- every other used place is a child exactly once, of a hub; parent is 0 or that hub, with that port
+  -- every other used place is a child exactly once, of a hub at a smaller place; parent is 0 or that hub, with that port
   pub child : (p : ℕ) → 0 < p → IsUsed s p → ChildOnce s p
-  -- place 0 is used if any is
-  pub first : (p : ℕ) → IsUsed s p → IsUsed s 0
-  -- following hubs upward reaches place 0
-  pub reaches : (p : ℕ) → IsUsed s p → (n : ℕ) × Depth s p n
+  -- no unused place stands before a used one
+  pub packed : (p q : ℕ) → p < q → IsUsed s q → IsUsed s p
   -- place 0's parent is 0
   pub root-parent : byte_at s 0 parent_field ≡ 0
   -- hub 0 means bytes 43-106 are zero, hub 1 that 43-51 are

@@ -3,12 +3,12 @@
 use mathlib.Core.Path.{◌≡◌, refl, ap₂}
 use mathlib.Core.List.{◌++◌}
 use Rattle.usb_model.proofs.Definitions.{definitions}
-use Rattle.usb_table.specs.Calls.{damaged_store, walk_refusals, again, root_refusals, entries, hub_refusals, child_and_port_refusals, taken, other_refusals, device_comes, hub_and_device, walk_more, speed_lines, attach_full, short_reads, long_lines, amended, endpoint_lines, stop_lines, device_lines, checks, port_lines, changes, change_lines, retries, retry_lines, child_lines, attach_lines, hub_call_lines, on_stores, table, expected}
+use Rattle.usb_table.specs.Calls.{damaged_store, walk_refusals, again, root_refusals, entries, hub_refusals, child_and_port_refusals, taken, other_refusals, hub_and_device, walk_more, speed_lines, attach_full, short_reads, long_lines, amended, endpoint_lines, stop_lines, device_lines, checks, port_lines, changes, change_lines, retries, retry_lines, child_lines, attach_lines, hub_call_lines, on_stores, table, expected}
 
 -- what the lines compute with
 unfolded : Unit {0}
 unfolding definitions damaged_store walk_refusals again root_refusals entries hub_refusals child_and_port_refusals taken
-    other_refusals device_comes hub_and_device walk_more speed_lines attach_full short_reads long_lines
+    other_refusals hub_and_device walk_more speed_lines attach_full short_reads long_lines
     amended endpoint_lines stop_lines device_lines checks port_lines changes change_lines retries retry_lines child_lines
     attach_lines hub_call_lines
 unfolded = tt

@@ -22,7 +22,7 @@ module _ (l : List ℕ) (at : Progress) (action : List ℕ) (r : Room l at) wher
   action-full h = record { is = λ s o. simp (lt-ltb _ _ h); room = r; taken = refl }
 
   pub action-logged : 16 ≤ length l - at.logged → (l' : List ℕ) → l' ≡ write l at.logged action → length l' ≡ length l
-      → Writes (log_action action) l at Ok l' (record { logged = at.logged + 16; taken = at.taken; requests = at.requests; unplugged = at.unplugged })
+      → Writes (log_action action) l at Ok l' (record { logged = at.logged + 16; taken = at.taken; requests = at.requests })
   unfolding log_action ◌>>=◌ ◌>>◌ look when skip change
   action-logged h l' e n = record {
     is = λ s o. simp (le-ltb _ _ h, e);
@@ -32,11 +32,11 @@ module _ (l : List ℕ) (at : Progress) (action : List ℕ) (r : Room l at) wher
 
 -- where an action was logged
 logged-at : (action l l' : List ℕ) (at at' : Progress) → log_action action (here [] l [] at) ≡ done tt (here [] l' [] at')
-    → at' ≡ record { logged = at.logged + 16; taken = at.taken; requests = at.requests; unplugged = at.unplugged }
+    → at' ≡ record { logged = at.logged + 16; taken = at.taken; requests = at.requests }
 logged-at action l l' at at' e = go (log-ends action (here [] l [] at)) e
   where
     go : {r : Ran World (Unit {0})} → Logs action (here [] l [] at) at.requests r → r ≡ done tt (here [] l' [] at')
-        → at' ≡ record { logged = at.logged + 16; taken = at.taken; requests = at.requests; unplugged = at.unplugged }
+        → at' ≡ record { logged = at.logged + 16; taken = at.taken; requests = at.requests }
     go full e = let z : ◌≡◌ {A = ℕ} 0 1 = cc in absurd (omega arith)
     go (was-logged room) e = sym (ap (λ (r : Ran World (Unit {0})). (end_of r).at) e)
 
@@ -50,7 +50,7 @@ module _ (l : List ℕ) (at : Progress) (action l' : List ℕ) (at' : Progress) 
   }
 
   pub request-logged : Writes (log_action action) l at Ok l' at' → Room l at
-      → Writes (log_request action) l at Ok l' (record { logged = at'.logged; taken = at'.taken; requests = at'.requests + 1; unplugged = at'.unplugged })
+      → Writes (log_request action) l at Ok l' (record { logged = at'.logged; taken = at'.taken; requests = at'.requests + 1 })
   unfolding log_request change
   request-logged r room =
       let further = logged-at action l l' at at' (r.is [] []) in

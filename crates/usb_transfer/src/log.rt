@@ -25,7 +25,6 @@ pub fn ok(at: Progress) -> Step
             logged: at.logged,
             taken: at.taken,
             requests: at.requests,
-            unplugged: at.unplugged,
         },
     }
 }
@@ -48,7 +47,6 @@ fn log_action(log: &mut [u8], at: Progress, action: [u8; ACTION_LEN]) -> Step
             logged: logged + ACTION_LEN,
             taken: at.taken,
             requests: at.requests,
-            unplugged: at.unplugged,
         },
     }
 }
@@ -70,7 +68,6 @@ pub fn log_request(log: &mut [u8], at: Progress, action: [u8; ACTION_LEN]) -> St
             logged: next.logged,
             taken: next.taken,
             requests: next.requests + 1,
-            unplugged: next.unplugged,
         },
     }
 }

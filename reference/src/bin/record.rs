@@ -19,7 +19,7 @@ mod recording {
     use reference::generator::history::{History, Step};
     use reference::generator::prng::Prng;
     use reference::generator::walks::walk_descriptors;
-    use reference::layout::{has_gap, RECORD_LENGTH};
+    use reference::layout::RECORD_LENGTH;
     use reference::vectors::{folder, walk, RecordedCall, RecordedWalk, Replay};
 
     const SEED: u64 = 2;
@@ -31,9 +31,9 @@ mod recording {
     const MOST_BYTES: usize = 1_300_000;
     const WALKS: usize = 4_000;
 
-    /// Entry point, answer, refused at entry, how many requests (none, up to 9,
-    /// up to 99, up to 499, more), and whether it ran on a store with a gap.
-    type Kind = (Entry, i32, bool, usize, bool);
+    /// Entry point, answer, refused at entry, and how many requests: none, up
+    /// to 9, up to 99, up to 499, more.
+    type Kind = (Entry, i32, bool, usize);
     type Recorded = Vec<(RecordedCall, Kind)>;
 
     #[derive(Default)]
@@ -52,12 +52,6 @@ mod recording {
         println!("calls.bin: {} calls, {} bytes", calls.len(), bytes.len());
         println!("  by hand: {}", fixed::calls().len());
         show(&kinds);
-        let gaps: usize = kinds
-            .iter()
-            .filter(|(kind, _)| kind.4)
-            .map(|(_, count)| count)
-            .sum();
-        println!("  on a store with a gap: {gaps}");
 
         let walks = walks();
         let mut bytes = Vec::new();
@@ -85,7 +79,7 @@ mod recording {
 
     fn show(kinds: &BTreeMap<Kind, usize>) {
         let mut counts: BTreeMap<(Entry, i32, bool), usize> = BTreeMap::new();
-        for ((entry, answer, refused, ..), count) in kinds {
+        for ((entry, answer, refused, _), count) in kinds {
             *counts.entry((*entry, *answer, *refused)).or_default() += count;
         }
         for ((entry, answer, refused), count) in counts {
@@ -116,7 +110,7 @@ mod recording {
                 .iter()
                 .filter(|(call, kind)| call.carries || call.starts || is_rare(kind))
                 .collect();
-            let bytes: usize = calls.iter().map(|(call, _)| call.length()).sum();
+            let bytes: usize = calls.iter().map(|(call, _)| 48 + call.outcomes.len()).sum();
             let fits = self.calls.len() + calls.len() <= MOST_CALLS;
             if !fits || self.bytes + bytes > MOST_BYTES {
                 return false;
@@ -153,8 +147,7 @@ mod recording {
                 .iter()
                 .filter(|&&most| call.requests >= most)
                 .count();
-            let on_gap = !report.refused && has_gap(history.old());
-            let kind = (call.call.entry, call.answer, report.refused, size, on_gap);
+            let kind = (call.call.entry, call.answer, report.refused, size);
             calls.push((call, kind));
         }
         calls

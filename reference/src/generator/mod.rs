@@ -2,10 +2,10 @@
 //! is kept as a flat list of outcomes.
 
 pub mod descriptors;
-mod plugs;
 pub mod prng;
-pub mod simulator;
 pub mod walks;
 
 #[cfg(have_original)]
 pub mod history;
+#[cfg(have_original)]
+pub mod simulator;

@@ -5,7 +5,6 @@
 //! The host controller is a simulated one, whose transfers are disturbed at
 //! random. Two instruments of the same make are told apart by the ports on
 //! which they stand. The exit status is 0 if both were found there, else 1.
-//! Then one of them is pulled and put in again, undisturbed, and a scan tells.
 #![allow(clippy::arithmetic_side_effects, clippy::indexing_slicing)]
 
 pub mod simulated;
@@ -13,11 +12,9 @@ pub mod simulated;
 use std::env;
 use std::process::ExitCode;
 
-use lidrumak::{
-    Action, Actions, Answer, Bus, Device, HubPort, Outcome, Outcomes, Reply, Request, Store,
-};
+use lidrumak::{Action, Actions, Answer, Bus, Device, HubPort, Outcome, Outcomes, Reply, Request};
 
-use simulated::{Simulated, HUB, INSTRUMENT, SECOND};
+use simulated::{Simulated, INSTRUMENT};
 
 /// What the glue needs of a host controller.
 pub trait HostController {
@@ -34,7 +31,7 @@ pub trait HostController {
 pub fn drive(
     bus: &mut Bus,
     controller: &mut impl HostController,
-    mut call: impl FnMut(&mut Bus, &[u8], &mut [u8]) -> Reply,
+    call: impl Fn(&mut Bus, &[u8], &mut [u8]) -> Reply,
 ) -> Reply {
     let mut buffer = vec![0; 16_384];
     let mut log = vec![0; 16_384];
@@ -79,8 +76,8 @@ const SCANS: u32 = 3;
 
 /// Attaches the bus. Where an instrument is missing, looks for it on the bus as
 /// it is. That doesn't help where a device failed after it had got its place, or
-/// a hub after it was configured, and nobody pulls it: then the bus is reset, and
-/// attached to an empty store.
+/// a hub after it was configured: then the bus is reset, and attached to an empty
+/// store.
 pub fn start_bench(bus: &mut Bus, controller: &mut Simulated) -> Start {
     let mut start = Start::default();
     while start.found.is_none() && start.starts < STARTS {
@@ -101,16 +98,15 @@ pub fn start_bench(bus: &mut Bus, controller: &mut Simulated) -> Start {
     start
 }
 
-/// A scan finds a device that was plugged in, or pulled, while its port still
-/// shows the connection change. Where a connection change has cleared that and
-/// then failed, a scan passes over the port, and the connection change is called
-/// alone.
+/// A scan finds a device whose port still shows the connection change. Where a
+/// connection change has cleared that and then failed, a scan passes over the
+/// port, and the connection change is called alone.
 fn look_again(bus: &mut Bus, controller: &mut Simulated, start: &mut Start) {
     start.scans += 1;
     drive(bus, controller, |bus, outcomes, log| {
         bus.scan(outcomes, log, 0)
     });
-    for HubPort { hub, port } in unsettled(bus) {
+    for HubPort { hub, port } in childless(bus) {
         start.changes += 1;
         drive(bus, controller, |bus, outcomes, log| {
             bus.connection_change(outcomes, log, hub, port)
@@ -118,9 +114,8 @@ fn look_again(bus: &mut Bus, controller: &mut Simulated, start: &mut Start) {
     }
 }
 
-/// The ports on which something is connected and no device stands, or nothing is
-/// connected and a device stands.
-pub fn unsettled(bus: &Bus) -> Vec<HubPort> {
+/// The ports on which something is connected and no device stands.
+pub fn childless(bus: &Bus) -> Vec<HubPort> {
     let store = bus.store();
     let ports = store.devices().flat_map(|device| {
         let ports = 0..device.ports.map_or(0, u32::from);
@@ -129,47 +124,14 @@ pub fn unsettled(bus: &Bus) -> Vec<HubPort> {
             port,
         })
     });
-    let is_unsettled = |at: &HubPort| {
+    let is_connected = |at: &HubPort| {
         let status = store.port_status(*at);
-        let connected = status.is_some_and(|status| status.is_connected());
-        connected != store.device_on(*at).is_some()
+        status.is_some_and(|status| status.is_connected())
     };
-    ports.filter(is_unsettled).collect()
-}
-
-/// What a scan made of a device that stood on a port before it.
-#[derive(Debug, Clone, Copy, PartialEq, Eq)]
-pub enum Became {
-    /// No change was seen on the way to it.
-    Same,
-    /// No device stands on the port.
-    Gone,
-    /// The device on the port was found by this scan: the same, or another one.
-    Anew,
-    /// The connection was lost, at least for a time. The store shows the device as
-    /// before; what is connected, if anything, doesn't answer at its address, and
-    /// may be another one.
-    Lost,
-}
-
-/// Reads it off the store that the scan left and its log: place, vendor and
-/// product of another device may be the same.
-pub fn became(device: &Device, store: &Store, log: &[u8]) -> Became {
-    let sent = |at: HubPort, request: u8, feature: u8| {
-        let port = at.port as u8 + 1;
-        let setup = [0x23, request, feature, 0, port, 0, 0, 0];
-        let mut requests = Actions::new(log).filter_map(Action::request);
-        requests.any(|sent| u32::from(sent.address) == at.hub + 1 && sent.setup == setup)
-    };
-    let is_reset = |at| sent(at, 3, 4);
-    let is_cleared = |at| sent(at, 1, 16);
-    match device.port {
-        None => Became::Same,
-        Some(at) if store.device_on(at).is_none() => Became::Gone,
-        Some(at) if is_reset(at) => Became::Anew,
-        Some(_) if store.route(device.place).any(is_cleared) => Became::Lost,
-        Some(_) => Became::Same,
-    }
+    ports
+        .filter(is_connected)
+        .filter(|at| store.device_on(*at).is_none())
+        .collect()
 }
 
 /// The two instruments, if two stand configured.
@@ -232,53 +194,11 @@ pub fn report(seed: u64, bus: &Bus, start: &Start, controller: &Simulated) -> (S
     (text, right)
 }
 
-/// The log of a scan.
-pub fn scan(bus: &mut Bus, controller: &mut impl HostController) -> Vec<u8> {
-    let mut log = vec![];
-    drive(bus, controller, |bus, outcomes, lent| {
-        let reply = bus.scan(outcomes, lent, 0);
-        log = lent.to_vec();
-        reply
-    });
-    log
-}
-
-/// What scans make of the instrument on the second hub: after it was pulled,
-/// after it was put in again, and after both between two scans.
-fn exchange(bus: &mut Bus, controller: &mut Simulated, found: &[Device]) -> String {
-    let is_second = |device: &&Device| bus.store().route(device.place).count() == 2;
-    let Some(device) = found.iter().find(is_second) else {
-        return String::new();
-    };
-    let mut text = String::new();
-    for (pull, put, words) in [
-        (true, false, "pulled"),
-        (false, true, "put in again"),
-        (true, true, "pulled and put in again"),
-    ] {
-        if pull {
-            controller.pull(SECOND);
-        }
-        if put {
-            controller.put(SECOND, HUB, 0);
-        }
-        let log = scan(bus, controller);
-        let became = became(device, bus.store(), &log);
-        text += &format!("{words}: {became:?}\n");
-    }
-    text
-}
-
 /// The whole program.
 pub fn run(seed: u64, controller: &mut Simulated) -> (String, bool) {
     let mut bus = Box::new(Bus::new());
     let start = start_bench(&mut bus, controller);
-    let (mut text, right) = report(seed, &bus, &start, controller);
-    controller.calm();
-    if let Some(found) = &start.found {
-        text += &exchange(&mut bus, controller, found);
-    }
-    (text, right)
+    report(seed, &bus, &start, controller)
 }
 
 fn main() -> ExitCode {

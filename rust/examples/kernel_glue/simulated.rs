@@ -9,13 +9,6 @@ use super::HostController;
 /// Vendor and product of both instruments.
 pub const INSTRUMENT: (u16, u16) = (0x1234, 0x0001);
 
-/// The devices: the root hub, the instrument on it, the second hub, the
-/// instrument on that.
-pub const ROOT: usize = 0;
-pub const FIRST: usize = 1;
-pub const HUB: usize = 2;
-pub const SECOND: usize = 3;
-
 const HUB_DEVICE: [u8; 18] = [
     18, 1, 0, 2, 9, 0, 0, 64, 0x24, 0x04, 0x12, 0x24, 0, 1, 0, 0, 0, 1,
 ];
@@ -118,9 +111,9 @@ pub struct Simulated {
 impl Simulated {
     /// A bus on which one transfer in `rate` is disturbed; none, if that is 0.
     pub fn new(seed: u64, rate: u64) -> Simulated {
-        let root = Device::with_ports(&[None, Some(FIRST), Some(HUB), None]);
+        let root = Device::with_ports(&[None, Some(1), Some(2), None]);
         let first = Device::with_ports(&[]);
-        let hub = Device::with_ports(&[Some(SECOND), None]);
+        let hub = Device::with_ports(&[Some(3), None]);
         let second = Device::with_ports(&[]);
         Simulated {
             devices: vec![root, first, hub, second],
@@ -133,35 +126,13 @@ impl Simulated {
         }
     }
 
-    /// From now on no transfer is disturbed.
-    pub fn calm(&mut self) {
-        self.rate = 0;
-    }
-
-    /// Pulls a device, with what is plugged into it, out of its port.
-    pub fn pull(&mut self, device: usize) {
-        let ports = self.devices.iter_mut().flat_map(|hub| &mut hub.ports);
-        for port in ports.filter(|port| port.plug == Some(device)) {
-            port.plug = None;
-            port.enabled = false;
-            port.connection_change |= port.powered;
+    /// Pulls the instrument out of the second hub.
+    pub fn unplug(&mut self) {
+        for device in self.devices.iter_mut().skip(2) {
+            for port in &mut device.ports {
+                port.plug = None;
+            }
         }
-        self.cut(device);
-    }
-
-    /// A device, and what is plugged into it, lose their supply.
-    fn cut(&mut self, device: usize) {
-        self.devices[device].restart();
-        let plugs = self.devices[device].ports.iter();
-        let plugs: Vec<usize> = plugs.filter_map(|port| port.plug).collect();
-        plugs.into_iter().for_each(|plug| self.cut(plug));
-    }
-
-    /// Puts a device into a port of a hub, counted from 0.
-    pub fn put(&mut self, device: usize, hub: usize, port: usize) {
-        let port = &mut self.devices[hub].ports[port];
-        port.plug = Some(device);
-        port.connection_change |= port.powered;
     }
 
     /// Restarts the whole bus.

@@ -64,17 +64,3 @@ pub fn outcome(submit: Answer, error: TransferError) -> Vec<u8> {
     outcomes.push(outcome).unwrap();
     outcomes.as_bytes().to_vec()
 }
-
-/// Puts a configured device at a place: `None` is no hub; else a hub of ten
-/// ports, with children as ports and places.
-pub fn put_place(store: &mut Store, place: usize, children: Option<&[(usize, u8)]>) {
-    let bytes = &mut store.as_bytes_mut()[place * 1152..][..1152];
-    bytes[..4].copy_from_slice(&[1, place as u8 + 1, 1, 4]);
-    if let Some(children) = children {
-        bytes[7] = 1;
-        bytes[106] = 10;
-        for (port, child) in children {
-            bytes[96 + port] = child + 1;
-        }
-    }
-}

@@ -1,12 +1,13 @@
 -- `lidrumak::lidrumak_child_check` meets its contract. Assumes nothing.
 use borrow.Author.Rules.{rules}
 use mathlib.Core.Path.{◌≡◌, refl}
+use Rattle.usb_device.proofs.Free.{free-most}
 use Rattle.usb_model.specs.Entry.{Lent, is_unused, start, child_check}
 use Rattle.usb_model.specs.Kept.{LentBytes}
 use Rattle.usb_model.proofs.Accepted.{used-inside, HubAccepted, hub-accepted}
 use Rattle.usb_transfer.specs.Runs.{here}
 use Rattle.usb_entry.specs.Replies.{lent}
-use Rattle.lidrumak.proofs.Entries.{refused-call, accepted-call, accepts, bytes_of, first-world, on-bus, enough}
+use Rattle.lidrumak.proofs.Entries.{refused-call, accepted-call, accepts, bytes_of, first-world, on-bus}
 use Rattle.lidrumak.proofs.lidrumak_child_check.Statement.{statement}
 use Rattle.lidrumak.proofs.lidrumak_child_check.Tie as tie
 
@@ -51,15 +52,14 @@ first c = first-world (lends (back c)) (copied c).copy-store.ensures c.begin.ens
 hub-check-connection-device-requires : tie.Need-hub-check-connection-device-requires
 hub-check-connection-device-requires c κs =
     let p = passed (back c) in
-    (on-bus _ (bytes (back c)) p (first c), used-inside (lends (back c)) _ p.good)
+    (on-bus _ (bytes (back c)) p.is-sound (first c) _ p.inside p.first, used-inside (lends (back c)) _ p.good)
 
 returns-2 : tie.Need-returns-2
 unfolding child_check
 returns-2 c =
     let b = c.before.before.before.before.before.before in
     let told = back b in
-    let bus = on-bus _ (bytes told) (passed told) (first b) in
-    let run = c.before.before.before.before.before.hub-check-connection-device.ensures 32 (enough bus) in
+    let run = c.before.before.before.before.before.hub-check-connection-device.ensures 32 (free-most _) in
     accepted-call _ _ _ (told.before.before.child-verdict.ensures _ _ _ refl) told.enum_told.given.1 (first b) _ run _ c.report.ensures
 
 pub lidrumak-child-check-spec : {M : Type 1} → statement M

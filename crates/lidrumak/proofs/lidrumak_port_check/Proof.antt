@@ -1,12 +1,13 @@
 -- `lidrumak::lidrumak_port_check` meets its contract. Assumes nothing.
 use borrow.Author.Rules.{rules}
 use mathlib.Core.Path.{◌≡◌, refl}
+use Rattle.usb_device.proofs.Free.{free-most}
 use Rattle.usb_model.specs.Entry.{Lent, no_port, start, port_check}
 use Rattle.usb_model.specs.Kept.{LentBytes}
 use Rattle.usb_model.proofs.Accepted.{port-inside, HubAccepted, hub-accepted}
 use Rattle.usb_transfer.specs.Runs.{here}
 use Rattle.usb_entry.specs.Replies.{lent}
-use Rattle.lidrumak.proofs.Entries.{refused-call, accepted-call, accepts, bytes_of, first-world, on-bus, enough}
+use Rattle.lidrumak.proofs.Entries.{refused-call, accepted-call, accepts, bytes_of, first-world, on-bus}
 use Rattle.lidrumak.proofs.lidrumak_port_check.Statement.{statement}
 use Rattle.lidrumak.proofs.lidrumak_port_check.Tie as tie
 
@@ -51,15 +52,14 @@ first c = first-world (lends (back c)) (copied c).copy-store.ensures c.begin.ens
 hub-check-connection-requires : tie.Need-hub-check-connection-requires
 hub-check-connection-requires c κs =
     let p = passed (back c) in
-    (on-bus _ (bytes (back c)) p (first c), port-inside _ p.good)
+    (on-bus _ (bytes (back c)) p.is-sound (first c) _ p.inside p.first, port-inside _ p.good)
 
 returns-2 : tie.Need-returns-2
 unfolding port_check
 returns-2 c =
     let b = c.before.before.before.before.before.before in
     let told = back b in
-    let bus = on-bus _ (bytes told) (passed told) (first b) in
-    let run = c.before.before.before.before.before.hub-check-connection.ensures 32 (enough bus) in
+    let run = c.before.before.before.before.before.hub-check-connection.ensures 32 (free-most _) in
     accepted-call _ _ _ (told.before.before.port-verdict.ensures _ _ _ refl) told.enum_told.given.1 (first b) _ run _ c.report.ensures
 
 pub lidrumak-port-check-spec : {M : Type 1} → statement M

@@ -7,7 +7,7 @@ use Rattle.usb_model.specs.Kept.{LentBytes}
 use Rattle.usb_model.proofs.Accepted.{RootAccepted, root-accepted}
 use Rattle.usb_transfer.specs.Runs.{here}
 use Rattle.usb_entry.specs.Replies.{lent}
-use Rattle.lidrumak.proofs.Entries.{refused-call, accepted-call, accepts, bytes_of, first-world, started, unused-first}
+use Rattle.lidrumak.proofs.Entries.{refused-call, accepted-call, accepts, bytes_of, first-world, started}
 use Rattle.lidrumak.proofs.lidrumak_root_attach.Statement.{statement}
 use Rattle.lidrumak.proofs.lidrumak_root_attach.Tie as tie
 
@@ -55,7 +55,7 @@ cast-speed c = omega (arith, (passed (back c)).low)
 usb-attach-root-hub-requires : tie.Need-usb-attach-root-hub-requires
 usb-attach-root-hub-requires c κs =
     let s = started _ (bytes (back c)) (passed (back c)).is-sound (first c) in
-    (s.fit, s.good, unused-first (lends (back c)) (passed (back c)).unused (first c))
+    (s.fit, s.good)
 
 returns-2 : tie.Need-returns-2
 unfolding root_attach

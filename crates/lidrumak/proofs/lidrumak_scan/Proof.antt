@@ -1,14 +1,15 @@
 -- `lidrumak::lidrumak_scan` meets its contract. Assumes nothing.
 use borrow.Author.Rules.{rules}
+use native.Mathlib.Omega.{arith}
 use mathlib.Core.Path.{◌≡◌, refl}
 use mathlib.Core.Bool.{false}
+use Rattle.usb_device.proofs.Free.{free-most}
 use Rattle.usb_model.specs.Entry.{Lent, start, scan}
 use Rattle.usb_model.specs.Kept.{LentBytes}
 use Rattle.usb_model.proofs.Accepted.{HubAccepted, hub-accepted}
 use Rattle.usb_transfer.specs.Runs.{here}
 use Rattle.usb_entry.specs.Replies.{lent}
-use Rattle.usb_driver.proofs.Births.{off-most}
-use Rattle.lidrumak.proofs.Entries.{refused-call, accepted-call, accepts, bytes_of, first-world, on-bus, enough}
+use Rattle.lidrumak.proofs.Entries.{refused-call, accepted-call, accepts, bytes_of, first-world, on-bus}
 use Rattle.lidrumak.proofs.lidrumak_scan.Statement.{statement}
 use Rattle.lidrumak.proofs.lidrumak_scan.Tie as tie
 
@@ -53,15 +54,14 @@ first c = first-world (lends (back c)) (copied c).copy-store.ensures c.begin.ens
 hub-check-for-change-requires : tie.Need-hub-check-for-change-requires
 hub-check-for-change-requires c κs =
     let p = passed (back c) in
-    on-bus _ (bytes (back c)) p (first c)
+    on-bus _ (bytes (back c)) p.is-sound (first c) _ p.inside p.first
 
 returns-2 : tie.Need-returns-2
 unfolding scan
 returns-2 c =
     let b = c.before.before.before.before.before.before in
     let told = back b in
-    let bus = on-bus _ (bytes told) (passed told) (first b) in
-    let run = c.before.before.before.before.before.hub-check-for-change.ensures 32 32 (enough bus) (off-most bus) in
+    let run = c.before.before.before.before.before.hub-check-for-change.ensures 32 32 (free-most _) (omega arith) in
     accepted-call _ _ _ (told.before.before.hub-verdict.ensures _ _ _ refl) told.enum_told.given.1 (first b) _ run _ c.report.ensures
 
 pub lidrumak-scan-spec : {M : Type 1} → statement M

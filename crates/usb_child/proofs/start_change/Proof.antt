@@ -61,12 +61,6 @@ hub-port-get-status-requires-2 c κs =
     let start = entry (frame-call (frame-ok (read-call (read_ok clear)))) in
     (clear.hub-change-port-feature.ensures.fit, start.pre.1, start.pre.2)
 
-same-length-6 : tie.Need-same-length-6
-same-length-6 c =
-    let clear = clear-call c.before.before.before.before.before.before.before.before in
-    let read = read-call (read_ok clear) in
-    c.before.before.before.before.hub-port-get-status2.auto.0 ∙ clear.hub-change-port-feature.kept.0 ∙ read.hub-port-get-status.kept.0
-
 same-length-7 : tie.Need-same-length-7
 same-length-7 c =
     let clear = clear-call c.before.before.before.before.before.before.before.before in
@@ -106,6 +100,6 @@ start-change-spec =
     (λ c. search rules)
     returns-3
     hub-port-get-status-requires-2
-    same-length-6
+    (λ c. search rules)
     same-length-7
     returns-4)

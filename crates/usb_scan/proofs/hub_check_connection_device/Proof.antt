@@ -13,7 +13,7 @@ entry c = c.before.before.before.before
 port-of-child-requires : tie.Need-port-of-child-requires
 port-of-child-requires c κs =
     let pre = (entry c).requires in
-    (pre.0.fit.whole, pre.0.used.0, pre.1, pre.0.good.most _)
+    (pre.0.fit.whole, pre.0.inside, pre.1, pre.0.good.most _)
 
 check-child-requires : tie.Need-check-child-requires
 check-child-requires c κs =

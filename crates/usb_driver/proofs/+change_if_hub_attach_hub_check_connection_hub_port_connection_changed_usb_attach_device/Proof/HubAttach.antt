@@ -9,7 +9,7 @@ use native.Mathlib.Nat.{le_refl}
 use Rattle.usb_types.specs.declared.types.Answer.{Answer}
 use Rattle.usb_types.proofs.types.wide.Reads as wide
 use Rattle.usb_store.proofs.byte_at.Reads as byte-at
-use Rattle.usb_unplug.specs.Unplug.{off_way}
+use Rattle.usb_device.specs.Device.{free_places}
 use Rattle.usb_model.specs.World.{World}
 use Rattle.usb_model.specs.Hub.{hub_attach}
 use Rattle.usb_model.specs.Attach.{attach_below}
@@ -20,8 +20,7 @@ use Rattle.usb_transfer.proofs.log.ok.Reads as ok
 use Rattle.usb_hub.proofs.Parts.{ignores}
 use Rattle.usb_hub.proofs.requests.ignore.Reads as ignore
 use Rattle.usb_hub_attach.proofs.ready_hub.Reads as ready-hub
-use Rattle.usb_driver.proofs.Reaches.{After, checked-after, checks_all, PortsChecked}
-use Rattle.usb_driver.proofs.Births.{ready-after}
+use Rattle.usb_driver.proofs.Reaches.{After, ready-after, checked-after, checks_all, PortsChecked}
 use Rattle.usb_driver.proofs.Lines.{hub-attaches}
 use Rattle.usb_transfer.proofs.Regroups.{ends_as}
 use Rattle.usb_driver.proofs.hub.hub_check_connection.Reads as check
@@ -46,14 +45,8 @@ module _ (t : ℕ) where
   abbrev entry : lts.After-ready-hub calls (Pre t) Post Inv-loop μ-loop → lts.Start calls (Pre t) Post Inv-loop μ-loop
   entry c = c.before.before.before.before.before.before
 
-  abbrev answered : lts.After-enum-told calls (Pre t) Post Inv-loop μ-loop → lts.After-ready-hub calls (Pre t) Post Inv-loop μ-loop
-  answered c = c.before.before.before.before.before.before
-
-  abbrev told : lts.At-loop calls (Pre t) Post Inv-loop μ-loop → lts.After-enum-told calls (Pre t) Post Inv-loop μ-loop
-  told c = c.before.before.before.before.before
-
   abbrev ready : lts.At-loop calls (Pre t) Post Inv-loop μ-loop → lts.After-ready-hub calls (Pre t) Post Inv-loop μ-loop
-  ready c = answered (told c)
+  ready c = c.before.before.before.before.before.before.before.before.before.before.before
 
   abbrev turn : lts.After-hub-check-connection calls (Pre t) Post Inv-loop μ-loop → lts.In-loop calls (Pre t) Post Inv-loop μ-loop
   turn c = c.before.before.before
@@ -69,27 +62,24 @@ module _ (t : ℕ) where
   abbrev at_turn : lts.At-loop calls (Pre t) Post Inv-loop μ-loop → World
   at_turn c = here c.loop.store c.loop.log (entry (ready c)).args.outcomes.now c.loop.progress
 
-  -- once it is ready, the place is a hub
-  readied : (c : lts.After-enum-told calls (Pre t) Post Inv-loop μ-loop)
-      → After 1 (entry (answered c)).args.hub (at_entry (answered c)) (at_ready (answered c))
-  readied c = ready-after (entry (answered c)).pre.1 (as-ok c.enum_told.given.1 (answered c).ready-hub.ensures)
+  readied : (c : lts.After-ready-hub calls (Pre t) Post Inv-loop μ-loop) → After (entry c).args.hub (at_entry c) (at_ready c)
+  readied c = ready-after (entry c).requires.1 c.ready-hub.ensures
 
   -- a hub has at most ten ports
   low : (c : lts.In-loop calls (Pre t) Post Inv-loop μ-loop) → c.before.loop.port < 10
   low c =
       let r = ready c.before in
-      let most = (readied (told c.before)).bus.good.most (entry r).args.hub in
+      let most = (readied r).bus.good.most (entry r).args.hub in
       omega (arith, c.loop-test.true, c.before.before.wide.ensures.0, c.before.before.before.byte-at.ensures, most)
 
   -- what is left of the ports ends the whole
-  ended : (c : lts.At-loop calls (Pre t) Post Inv-loop μ-loop) (n : ℕ) {a : Answer} {v : World} → off_way (at_entry (ready c)).store
-      (entry (ready c)).args.hub ≤ n
+  ended : (c : lts.At-loop calls (Pre t) Post Inv-loop μ-loop) (n : ℕ) {a : Answer} {v : World} → free_places (at_entry (ready c)).store ≤ n
       → Ends (checks_all n (entry (ready c)).args.hub (c.before.wide.result - c.loop.port) c.loop.port) (at_turn c) a tt v
       → Ends (hub_attach (attach_below n) (entry (ready c)).args.hub) (at_entry (ready c)) a tt v
   ended c n h e =
-      ends_as (hub-attaches _ _) (next (as-ok (told c).enum_told.given.1 (ready c).ready-hub.ensures)
+      ends_as (hub-attaches _ _) (next (as-ok c.before.before.before.before.before.enum_told.given.1 (ready c).ready-hub.ensures)
       (got-as _ _ _ (c.before.wide.ensures.0 ∙ c.before.before.byte-at.ensures)
-      (ends_with (c.loop.invariant.goes n (omega (arith, (readied (told c)).off))) e)))
+      (ends_with (c.loop.invariant.goes n (omega (arith, (readied (ready c)).free))) e)))
 
   same_store : (c : lts.At-loop calls (Pre t) Post Inv-loop μ-loop) → length c.loop.store ≡ length (at_entry (ready c)).store
   same_store c = (c.loop.invariant.goes _ (le_refl _)).store ∙ (ready c).ready-hub.auto.0
@@ -102,7 +92,7 @@ module _ (t : ℕ) where
   ready-hub-requires : lts.Need-ready-hub-requires calls (Pre t) Post Inv-loop μ-loop
   ready-hub-requires c κs =
       let pre = c.before.before.before.before.before.requires.1 in
-      (pre.fit, pre.used.0)
+      (pre.fit, pre.inside)
 
   returns : lts.Need-returns calls (Pre t) Post Inv-loop μ-loop
   returns c n h =
@@ -111,20 +101,20 @@ module _ (t : ℕ) where
 
   loop-holds : lts.Need-loop-init calls (Pre t) Post Inv-loop μ-loop
   loop-holds c =
-      let bus = (readied c.before.before.before.before).bus in
-      record { after = record { bus = bus; off = refl }; goes = λ n h. each-starts _ _ _ refl (going _ bus.fit) }
+      let bus = (readied c.before.before.before.before.before.before.before.before.before.before).bus in
+      record { after = record { bus = bus; free = le_refl _ }; goes = λ n h. each-starts _ _ _ refl (going _ bus.fit) }
 
   hub-check-connection-requires : lts.Need-hub-check-connection-requires calls (Pre t) Post Inv-loop μ-loop
   hub-check-connection-requires c κs =
       let at = c.before.before.before in
       let after = at.loop.invariant.after in
-      (omega (arith, (entry (ready at)).pre.0, (readied (told at)).off, after.off), (after.bus, low c.before.before))
+      (omega (arith, (entry (ready at)).pre.0, (readied (ready at)).free, after.free), (after.bus, low c.before.before))
 
   returns-2 : lts.Need-returns-2 calls (Pre t) Post Inv-loop μ-loop
   returns-2 c n h =
       let call = c.before.before.before.before.before.before in
       let at = (turn call).before in
-      let checked = call.hub-check-connection.ensures n (omega (arith, (readied (told at)).off, at.loop.inv.after.off)) in
+      let checked = call.hub-check-connection.ensures n (omega (arith, (readied (ready at)).free, at.loop.inv.after.free)) in
       ended at n h
       (each-ended _ _ _ (turn call).loop-test.true (rw c.before.ignore.ensures (ignores checked)) (not-ok _ c.match2.keys2))
 
@@ -137,10 +127,10 @@ module _ (t : ℕ) where
       let answered = ap (λ (step : Step). step.answer) (sym ignored) ∙ c.before.enum-told2.given.1 in
       let k = checked-after _ inv.after.bus (low (turn call)) (check.ensures _ (le_refl _)) in
       record {
-        after = rw ignored (record { bus = k.bus; off = k.off ∙ inv.after.off });
+        after = rw ignored (record { bus = k.bus; free = omega (arith, k.free, inv.after.free) });
         goes = λ n h.
             each_goes _ _ _ (turn call).loop-test.true (inv.goes n h)
-            (rw ignored (rw answered at (ignores (check.ensures n (omega (arith, inv.after.off)))))) check.auto.0 check.auto.1.0;
+            (rw ignored (rw answered at (ignores (check.ensures n (omega (arith, inv.after.free)))))) check.auto.0 check.auto.1.0;
       }
 
   returns-3 : lts.Need-returns-3 calls (Pre t) Post Inv-loop μ-loop

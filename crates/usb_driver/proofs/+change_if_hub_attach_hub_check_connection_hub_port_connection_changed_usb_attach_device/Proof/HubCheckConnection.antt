@@ -50,10 +50,10 @@ module _ (t : ℕ) where
   abbrev at_first : lts.After-change-if calls (Pre t) Post → World
   at_first c = here c.change-if.new.0 c.change-if.new.1.0 (entry (found c)).args.outcomes.now c.change-if.result.at
 
-  started : (c : lts.After-start-check calls (Pre t) Post) → After 1 (entry c).args.hub (at_entry c) (at-found c)
+  started : (c : lts.After-start-check calls (Pre t) Post) → After (entry c).args.hub (at_entry c) (at-found c)
   started c = started-after (entry c).requires.1.0 _ (entry c).requires.1.1 c.start-check.ensures.ends
 
-  changed : (c : lts.After-change-if calls (Pre t) Post) → After 1 (entry (found c)).args.hub (at-found (found c)) (at_first c)
+  changed : (c : lts.After-change-if calls (Pre t) Post) → After (entry (found c)).args.hub (at-found (found c)) (at_first c)
   changed c = changed-after _ (started (found c)).bus (entry (found c)).pre.1.1 _ (c.change-if.ensures _ (le_refl _))
 
   -- the definition's first lines, once they answered Ok
@@ -75,7 +75,7 @@ module _ (t : ℕ) where
   start-check-requires : lts.Need-start-check-requires calls (Pre t) Post
   start-check-requires c κs =
       let pre = c.before.before.before.before.before.requires.1 in
-      (pre.0.fit, pre.0.used.0, pre.1)
+      (pre.0.fit, pre.0.inside, pre.1)
 
   returns : lts.Need-returns calls (Pre t) Post
   returns c n h =
@@ -85,26 +85,26 @@ module _ (t : ℕ) where
   change-if-requires : lts.Need-change-if-requires calls (Pre t) Post
   change-if-requires c κs =
       let call = c.before.before.before.before.before.before.before.before.before.before.before in
-      (omega (arith, (entry call).requires.0, (started call).off), ((started call).bus, (entry call).requires.1.1))
+      (omega (arith, (entry call).requires.0, (started call).free), ((started call).bus, (entry call).requires.1.1))
 
   returns-2 : lts.Need-returns-2 calls (Pre t) Post
   returns-2 c n h =
       let call = c.before.before.before.before.before in
-      let change = call.change-if.ensures n (omega (arith, (started (found call)).off)) in
+      let change = call.change-if.ensures n (omega (arith, (started (found call)).free)) in
       ends_as (checks _ _ _) (bound _ (start call) (next-ended _ _ change (not-ok _ c.match2.keys2)))
 
   change-if-requires-2 : lts.Need-change-if-requires-2 calls (Pre t) Post
   change-if-requires-2 c κs =
       let call = c.before.before.before.before.before.before.before.before.before in
       let pre = (entry (found call)).pre in
-      (omega (arith, pre.0, (started (found call)).off, (changed call).off), ((changed call).bus, pre.1.1))
+      (omega (arith, pre.0, (started (found call)).free, (changed call).free), ((changed call).bus, pre.1.1))
 
   returns-3 : lts.Need-returns-3 calls (Pre t) Post
   returns-3 c n h =
       let call = c.before.before.before.before.before in
-      let off = (started (found (first call))).off in
-      let change = (first call).change-if.ensures n (omega (arith, off)) in
-      let again = call.change-if2.ensures n (omega (arith, off, (changed (first call)).off)) in
+      let free = (started (found (first call))).free in
+      let change = (first call).change-if.ensures n (omega (arith, free)) in
+      let again = call.change-if2.ensures n (omega (arith, free, (changed (first call)).free)) in
       ends_as (checks _ _ _) (bound _ (start (first call)) (next (as-ok call.before.before.before.before.enum-told2.given.1 change)
       (next-ended _ _ again (not-ok _ c.match3.keys2))))
 
@@ -112,15 +112,15 @@ module _ (t : ℕ) where
   end-check-requires c κs =
       let call = c.before.before.before.before.before.before.before.before.before in
       let pre = (entry (found (first call))).pre.1 in
-      ((call.change-if2.ensures _ (le_refl _)).fit, pre.0.used.0, pre.1)
+      ((call.change-if2.ensures _ (le_refl _)).fit, pre.0.inside, pre.1)
 
   returns-4 : lts.Need-returns-4 calls (Pre t) Post
   returns-4 c n h =
       let call = c.before.before.before.before in
       let begun = first (second call) in
-      let off = (started (found begun)).off in
-      let change = begun.change-if.ensures n (omega (arith, off)) in
-      let again = (second call).change-if2.ensures n (omega (arith, off, (changed begun).off)) in
+      let free = (started (found begun)).free in
+      let change = begun.change-if.ensures n (omega (arith, free)) in
+      let again = (second call).change-if2.ensures n (omega (arith, free, (changed begun).free)) in
       ends_as (checks _ _ _) (bound _ (start begun) (next (as-ok (second call).before.before.before.before.enum-told2.given.1 change)
       (next (as-ok call.before.before.before.before.enum-told3.given.1 again) call.end-check.ensures)))
 

@@ -1,5 +1,4 @@
--- The measures: eight for each place that is not on the way from the place up to place 0, and a stage. A new child stands one deeper
--- than its hub. Assumes nothing.
+-- The measures: eight for each free place, and a stage. A place is taken on the way from a connection change to an attach. Assumes nothing.
 use Prim.Native.Nat.{ℕ, ◌+◌, ◌*◌}
 use borrow.Fn.Kinds.{In}
 use borrow.Fn.PlainCycle.{Measures}
@@ -13,23 +12,23 @@ use Rattle.usb_driver.proofs.hub.hub_port_connection_changed.Reads as hub-port-c
 use Rattle.usb_driver.proofs.hub.hub_port_connection_changed.Kinds as hub-port-connection-changed-kinds
 use Rattle.usb_driver.proofs.usbd.usb_attach_device.Reads as usb-attach-device
 use Rattle.usb_driver.proofs.usbd.usb_attach_device.Kinds as usb-attach-device-kinds
-use Rattle.usb_unplug.specs.Unplug.{off_way}
+use Rattle.usb_device.specs.Device.{free_places}
 use Rattle.usb_driver.proofs.Cycles.{given, below}
 
 abbrev pub μ-change-if : Measures 3 change-if-kinds.ps ℕ
-μ-change-if κs a = 8 * off_way a.0.now a.1.1.1.1.0 + 1
+μ-change-if κs a = 8 * free_places a.0.now + 1
 
 abbrev pub μ-hub-attach : Measures 3 hub-attach-kinds.ps ℕ
-μ-hub-attach κs a = 8 * off_way a.0.now a.1.1.1.1.0 + 3
+μ-hub-attach κs a = 8 * free_places a.0.now + 3
 
 abbrev pub μ-hub-check-connection : Measures 3 hub-check-connection-kinds.ps ℕ
-μ-hub-check-connection κs a = 8 * off_way a.0.now a.1.1.1.1.0 + 2
+μ-hub-check-connection κs a = 8 * free_places a.0.now + 2
 
 abbrev pub μ-hub-port-connection-changed : Measures 3 hub-port-connection-changed-kinds.ps ℕ
-μ-hub-port-connection-changed κs a = 8 * off_way a.0.now a.1.1.1.1.0
+μ-hub-port-connection-changed κs a = 8 * free_places a.0.now
 
 abbrev pub μ-usb-attach-device : Measures 3 usb-attach-device-kinds.ps ℕ
-μ-usb-attach-device κs a = 8 * off_way a.0.now a.1.1.1.1.0 + 4
+μ-usb-attach-device κs a = 8 * free_places a.0.now + 4
 
 -- what a member is given at the measure t, and what a call of it asks below t
 

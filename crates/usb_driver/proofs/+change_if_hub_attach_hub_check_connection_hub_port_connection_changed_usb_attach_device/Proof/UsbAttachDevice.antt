@@ -30,7 +30,7 @@ module _ (t : ℕ) where
   described c = c.before.before.before.before.before.before.before.before.before.before
 
   enumerated : (c : lts.After-enumerate calls (Pre t) Post)
-      → After 0 (entry c).args.place
+      → After (entry c).args.place
       (here (entry c).args.store.now (entry c).args.log.now (entry c).args.outcomes.now (entry c).args.at)
       (here c.enumerate.new.0 c.enumerate.new.1.0 (entry c).args.outcomes.now c.enumerate.result.at)
   enumerated c = enumerated-after (entry c).requires.1 c.enumerate.ensures
@@ -40,7 +40,7 @@ module _ (t : ℕ) where
   enumerate-requires : lts.Need-enumerate-requires calls (Pre t) Post
   enumerate-requires c κs =
       let pre = c.before.before.before.before.before.requires.1 in
-      (pre.fit, pre.used.0)
+      (pre.fit, pre.inside)
 
   returns : lts.Need-returns calls (Pre t) Post
   returns c n h =
@@ -50,7 +50,7 @@ module _ (t : ℕ) where
   hub-attach-requires : lts.Need-hub-attach-requires calls (Pre t) Post
   hub-attach-requires c κs =
       let call = described c.before.before.before in
-      (omega (arith, (entry call).pre.0, (enumerated call).off), (enumerated call).bus)
+      (omega (arith, (entry call).pre.0, (enumerated call).free), (enumerated call).bus)
 
   returns-2 : lts.Need-returns-2 calls (Pre t) Post
   returns-2 c n h =
@@ -58,7 +58,7 @@ module _ (t : ℕ) where
       let hub = sym test.is-hub-class.ensures ∙ c.before.before.before.before.before.before.before.if1.true in
       let ready = as-ok test.before.before.before.before.enum_told.given.1 (described test).enumerate.ensures in
       at_fuel _ _ n h (λ m g. ends_as (attaches _ _) (next ready (got-as _ _ _ test.before.byte-at.ensures
-      (done-if hub (c.before.before.before.before.hub-attach.ensures m (omega (arith, (enumerated (described test)).off)))))))
+      (done-if hub (c.before.before.before.before.hub-attach.ensures m (omega (arith, (enumerated (described test)).free)))))))
 
   returns-3 : lts.Need-returns-3 calls (Pre t) Post
   returns-3 c n h =

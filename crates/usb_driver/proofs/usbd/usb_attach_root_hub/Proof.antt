@@ -4,14 +4,14 @@ use borrow.Author.Rules.{rules}
 use mathlib.Core.List.{List}
 use native.Mathlib.Omega.{arith}
 use Rattle.usb_types.specs.declared.types.Answer.TheVariants.{Ok}
+use Rattle.usb_device.proofs.Free.{free-most}
 use Rattle.usb_model.specs.World.{World}
 use Rattle.usb_model.specs.Usbd.{usb_allocate_device}
 use Rattle.usb_model.specs.Attach.{usb_attach_root_hub}
 use Rattle.usb_transfer.specs.Runs.{here, Ends}
 use Rattle.usb_transfer.proofs.Steps.{NotOk, bound, bound-ended, put_then}
 use Rattle.usb_child.proofs.Births.{full, taken}
-use Rattle.usb_driver.specs.Bus.{Bus}
-use Rattle.usb_driver.proofs.Births.{root-born, off-most}
+use Rattle.usb_driver.proofs.Births.{Born, root-born}
 use Rattle.usb_driver.proofs.usbd.usb_attach_root_hub.Statement.{statement}
 use Rattle.usb_driver.proofs.usbd.usb_attach_root_hub.Tie as tie
 
@@ -39,19 +39,21 @@ allocated : (c : tie.After-set-byte2)
 allocated c =
     taken _ _ c.before.before.before.before.before.before.if1.false ((place c).usb-allocate-device.ensures.0 _ _ _ (entry c).requires.0)
 
-born : (c : tie.After-set-byte2) → Bus 0 (place c).usb-allocate-device.result (world c c.set-byte2.new.0)
+born : (c : tie.After-set-byte2)
+    → Born (world c (entry c).args.store.now) (place c).usb-allocate-device.result (world c c.set-byte2.new.0)
 born c =
-    root-born _ (entry c).args.speed _ _ _ (entry c).requires.1 (entry c).requires.2 (omega (arith, (entry c).ranges.speed)) (allocated c)
+    root-born _ (entry c).args.speed _ _ _ (entry c).requires.1 (omega (arith, (entry c).ranges.speed)) (allocated c)
     c.before.before.before.before.set-byte.ensures c.set-byte2.ensures
 
 usb-attach-device-requires : tie.Need-usb-attach-device-requires
-usb-attach-device-requires c κs = born c.before.before.before.before
+usb-attach-device-requires c κs = (born c.before.before.before.before).bus
 
 returns-2 : tie.Need-returns-2
 unfolding usb_attach_root_hub
 returns-2 c =
     let set = c.before.before.before.before.before.before.before.before.before in
-    let attached = c.before.before.before.before.usb-attach-device.ensures 32 (off-most (born set)) in
+    let most = free-most (entry set).args.store.now in
+    let attached = c.before.before.before.before.usb-attach-device.ensures 32 (omega (arith, (born set).free, most)) in
     bound _ (allocated set)
     (put_then _ _ _ _ set.before.before.before.before.set-byte.ensures (put_then _ _ _ _ set.set-byte2.ensures attached))
 

@@ -1,6 +1,6 @@
 -- `hub_check_for_change` meets its contract, if its calls do. The loop's invariant: the ports that are left, run from here, are all ports
 -- run from where the loop began. Assumes nothing.
-use Prim.Native.Nat.{ℕ, ◌-◌, ◌≤◌, ◌<◌}
+use Prim.Native.Nat.{ℕ, suc, ◌+◌, ◌-◌, ◌≤◌, ◌<◌}
 use borrow.Author.Rules.{rules}
 use mathlib.Core.Path.{◌≡◌, refl, ◌∙◌}
 use lib.ListN.{length}
@@ -8,8 +8,9 @@ use native.Mathlib.Omega.{arith}
 use native.Mathlib.Nat.{le_refl}
 use Rattle.usb_types.specs.declared.types.Answer.{Answer}
 use Rattle.usb_types.proofs.types.wide.Reads as wide
+use Rattle.usb_store.specs.Layout.{place_count}
 use Rattle.usb_store.proofs.byte_at.Reads as byte-at
-use Rattle.usb_unplug.specs.Unplug.{off_way}
+use Rattle.usb_device.specs.Device.{free_places}
 use Rattle.usb_model.specs.World.{World}
 use Rattle.usb_model.specs.Hub.{hub_check_for_change}
 use Rattle.usb_model.specs.Attach.{attach_below}
@@ -56,51 +57,50 @@ module _ (t : ℕ) where
 
   -- what is left of the ports ends the whole
   ended : (c : lts.At-loop calls (Pre t) Post Inv-loop μ-loop) (n m : ℕ) {a : Answer} {v : World}
-      → off_way (at_entry c).store (entry c).args.hub ≤ n → off_way (at_entry c).store (entry c).args.hub < m
-      → ((k : ℕ) → off_way (at_entry c).store (entry c).args.hub ≤ k
+      → free_places (at_entry c).store ≤ n → place_count ≤ (entry c).args.hub + m
+      → ((k : ℕ) → place_count ≤ (entry c).args.hub + suc k
       → Ends (scans_all n k (entry c).args.hub (c.before.wide.result - c.loop.port) c.loop.port) (at_turn c) a tt v)
       → Ends (hub_check_for_change (attach_below n) m (entry c).args.hub) (at_entry c) a tt v
   ended c n m h l e =
-      at_places _ _ _ m l (λ k g. got-as _ _ _ (c.before.wide.ensures.0 ∙ c.before.before.byte-at.ensures)
+      at_places _ _ m (entry c).requires.1.inside l (λ k g. got-as _ _ _ (c.before.wide.ensures.0 ∙ c.before.before.byte-at.ensures)
       (ends_with (c.loop.invariant.goes n k h g) (e k g)))
 
   same_store : (c : lts.At-loop calls (Pre t) Post Inv-loop μ-loop) → length c.loop.store ≡ length (at_entry c).store
-  same_store c = (c.loop.invariant.goes _ _ (le_refl _) (le_refl _)).store
+  same_store c = (c.loop.invariant.goes _ 32 (le_refl _) (omega arith)).store
 
   same_log : (c : lts.At-loop calls (Pre t) Post Inv-loop μ-loop) → length c.loop.log ≡ length (at_entry c).log
-  same_log c = (c.loop.invariant.goes _ _ (le_refl _) (le_refl _)).log
+  same_log c = (c.loop.invariant.goes _ 32 (le_refl _) (omega arith)).log
 
   -- ---- the needs
 
   loop-holds : lts.Need-loop-init calls (Pre t) Post Inv-loop μ-loop
   loop-holds c =
       let bus = c.before.before.before.before.before.before.requires.1 in
-      record { after = record { bus = bus; off = refl }; goes = λ n m h l. each-starts _ _ _ refl (going _ bus.fit) }
+      record { after = record { bus = bus; free = le_refl _ }; goes = λ n m h l. each-starts _ _ _ refl (going _ bus.fit) }
 
   scan-port-requires : lts.Need-scan-port-requires calls (Pre t) Post Inv-loop μ-loop
   scan-port-requires c κs =
       let at = c.before.before.before in
-      (omega (arith, (entry at).requires.0, at.loop.invariant.after.off), (at.loop.invariant.after.bus, low c.before.before))
+      (omega (arith, (entry at).requires.0), (at.loop.invariant.after.bus, low c.before.before))
 
   returns : lts.Need-returns calls (Pre t) Post Inv-loop μ-loop
   returns c n m h l =
       let call = c.before.before.before.before.before in
       let at = (turn call).before in
       ended at n m h l (λ k g. each-ended _ _ _ (turn call).loop-test.true
-      (call.scan-port.ensures n k (omega (arith, at.loop.inv.after.off)) (omega (arith, at.loop.inv.after.off))) (not-ok _ c.match.keys2))
+      (call.scan-port.ensures n k (omega (arith, at.loop.inv.after.free)) g) (not-ok _ c.match.keys2))
 
   loop-again : lts.Need-loop-preserved calls (Pre t) Post Inv-loop μ-loop
   loop-again c =
       let call = c.before.before.before.before.before.before.before in
       let scan = call.scan-port in
       let inv = (turn call).before.loop.invariant in
-      let k = scanned-after _ _ _ inv.after.bus (low (turn call)) (scan.ensures _ _ (le_refl _) (le_refl _)) in
+      let k = scanned-after _ 32 _ inv.after.bus (low (turn call)) (scan.ensures _ 32 (le_refl _) (omega arith)) in
       record {
-        after = record { bus = k.bus; off = k.off ∙ inv.after.off };
+        after = record { bus = k.bus; free = omega (arith, k.free, inv.after.free) };
         goes = λ n m h l.
             each_goes _ _ _ (turn call).loop-test.true (inv.goes n m h l)
-            (as-ok c.before.enum_told.given.1 (scan.ensures n m (omega (arith, inv.after.off)) (omega (arith, inv.after.off)))) scan.auto.0
-            scan.auto.1.0;
+            (as-ok c.before.enum_told.given.1 (scan.ensures n m (omega (arith, inv.after.free)) l)) scan.auto.0 scan.auto.1.0;
       }
 
   returns-2 : lts.Need-returns-2 calls (Pre t) Post Inv-loop μ-loop

@@ -1,20 +1,18 @@
--- The measures: two for each place that is not on the way from the hub up to place 0, and a stage. A child stands one deeper than its
--- hub. Assumes nothing.
-use Prim.Native.Nat.{ℕ, ◌+◌, ◌*◌}
+-- The measures: two for each place above the hub, and a stage. A child stands above its hub. Assumes nothing.
+use Prim.Native.Nat.{ℕ, ◌+◌, ◌*◌, ◌-◌}
 use borrow.Fn.Kinds.{In}
 use borrow.Fn.PlainCycle.{Measures}
 use Rattle.usb_scan.proofs.hub_check_for_change.Reads as hub-check-for-change
 use Rattle.usb_scan.proofs.hub_check_for_change.Kinds as hub-check-for-change-kinds
 use Rattle.usb_scan.proofs.scan_port.Reads as scan-port
 use Rattle.usb_scan.proofs.scan_port.Kinds as scan-port-kinds
-use Rattle.usb_unplug.specs.Unplug.{off_way}
 use Rattle.usb_driver.proofs.Cycles.{given, below}
 
 abbrev pub μ-hub-check-for-change : Measures 3 hub-check-for-change-kinds.ps ℕ
-μ-hub-check-for-change κs a = 2 * off_way a.0.now a.1.1.1.1.0 + 1
+μ-hub-check-for-change κs a = 2 * (32 - a.1.1.1.1.0) + 1
 
 abbrev pub μ-scan-port : Measures 3 scan-port-kinds.ps ℕ
-μ-scan-port κs a = 2 * off_way a.0.now a.1.1.1.1.0
+μ-scan-port κs a = 2 * (32 - a.1.1.1.1.0)
 
 -- what a member is given at the measure t, and what a call of it asks below t
 

@@ -1,5 +1,5 @@
 -- `scan_port` meets its contract, if its calls do. Assumes nothing.
-use Prim.Native.Nat.{ℕ, ◌+◌, ◌-◌, ◌≤◌}
+use Prim.Native.Nat.{ℕ, ◌-◌, ◌≤◌, ◌<◌}
 use borrow.Author.Rules.{rules}
 use mathlib.Core.Path.{◌≡◌, sym, ◌∙◌}
 use native.Mathlib.Omega.{arith}
@@ -9,7 +9,7 @@ use Rattle.usb_types.proofs.types.wide.Reads as wide
 use Rattle.usb_store.specs.Layout.{child_field}
 use Rattle.usb_store.specs.Access.{byte_at}
 use Rattle.usb_store.proofs.byte_at.Reads as byte-at
-use Rattle.usb_unplug.specs.Unplug.{off_way}
+use Rattle.usb_device.specs.Device.{free_places}
 use Rattle.usb_model.specs.World.{World}
 use Rattle.usb_model.specs.Hub.{hub_check_connection}
 use Rattle.usb_model.specs.Attach.{attach_below}
@@ -20,7 +20,7 @@ use Rattle.usb_hub.proofs.requests.ignore.Reads as ignore
 use Rattle.usb_driver.specs.Bus.{Bus}
 use Rattle.usb_driver.proofs.Reaches.{After, checked-after}
 use Rattle.usb_driver.proofs.hub.hub_check_connection.Reads as hub-check-connection
-use Rattle.usb_scan.proofs.Scans.{child-bus, hub-bus, passes-failed, passes_none, passes-no-hub, goes-below}
+use Rattle.usb_scan.proofs.Scans.{child-bus, passes-failed, passes_none, passes-no-hub, goes-below}
 use Rattle.usb_scan.proofs.hub_check_for_change.Reads as hub-check-for-change
 use Rattle.usb_scan.proofs.scan_port.Reads.{Post}
 use Rattle.usb_scan.proofs.+hub_check_for_change_scan_port.Lts-scan_port as lts
@@ -64,11 +64,11 @@ module _ (t : ℕ) where
       let call = c.hub-check-connection in
       here call.new.0 call.new.1.0 (entry c).args.outcomes.now call.result.at
 
-  after : (c : lts.After-hub-check-connection calls (Pre t) Post) → After 1 (entry c).args.hub (at_entry c) (at-checked c)
+  after : (c : lts.After-hub-check-connection calls (Pre t) Post) → After (entry c).args.hub (at_entry c) (at-checked c)
   after c = checked-after _ (entry c).requires.1.0 (entry c).requires.1.1 (c.hub-check-connection.ensures _ (le_refl _))
 
   -- the check, which answered Ok
-  check : (c : lts.After-wide calls (Pre t) Post) (n : ℕ) → off_way (at_entry (checked c)).store (entry (checked c)).args.hub ≤ n
+  check : (c : lts.After-wide calls (Pre t) Post) (n : ℕ) → free_places (at_entry (checked c)).store ≤ n
       → Ends (hub_check_connection (attach_below n) (entry (checked c)).args.hub (entry (checked c)).args.port)
       (at_entry (checked c)) Ok tt (at-checked (checked c))
   check c n h = as-ok (told c).enum_told.given.1 ((checked c).hub-check-connection.ensures n h)
@@ -77,11 +77,10 @@ module _ (t : ℕ) where
       → c.wide.result ≡ byte_at (at-checked (checked c)).store (entry (checked c)).args.hub (child_field (entry (checked c)).args.port)
   child c = c.wide.ensures.0 ∙ c.before.port-child.ensures
 
-  -- the child stands one deeper than its hub
+  -- the child stands above its hub
   above : (c : lts.Else1 calls (Pre t) Post)
-      → (off_way (at-checked (checked c.before)).store (c.before.wide.result - 1) + 1
-      ≡ off_way (at-checked (checked c.before)).store (entry (checked c.before)).args.hub)
-      × Bus 0 (c.before.wide.result - 1) (at-checked (checked c.before))
+      → ((entry (checked c.before)).args.hub < c.before.wide.result - 1)
+      × Bus (c.before.wide.result - 1) (at-checked (checked c.before))
   above c =
       let call = checked c.before in
       child-bus _ _ _ (after call).bus (entry call).pre.1.1 (child c.before) c.if1.false
@@ -101,7 +100,7 @@ module _ (t : ℕ) where
   byte-at-requires : lts.Need-byte-at-requires calls (Pre t) Post
   byte-at-requires c κs =
       let bus = (above c.before).1 in
-      record { whole = bus.fit.whole; inside = bus.used.0; room = omega arith }
+      record { whole = bus.fit.whole; inside = bus.inside; room = omega arith }
 
   returns-3 : lts.Need-returns-3 calls (Pre t) Post
   returns-3 c n m h l =
@@ -113,20 +112,15 @@ module _ (t : ℕ) where
   hub-check-for-change-requires : lts.Need-hub-check-for-change-requires calls (Pre t) Post
   hub-check-for-change-requires c κs =
       let some = c.before.before.before.before.before.before in
-      let test = c.before.before.before in
-      let call = checked some.before in (
-        omega (arith, (entry call).pre.0, (above some).0, (after call).off),
-        hub-bus (above some).1 (λ z. test.if2.false (test.before.byte-at.ensures ∙ z)),
-      )
+      (omega (arith, (entry (checked some.before)).pre.0, (above some).0, (above some).1.inside), (above some).1)
 
   returns-4 : lts.Need-returns-4 calls (Pre t) Post
   returns-4 c n m h l =
       let test = c.before.before.before.before.before.before.before.before in
       let some = test.before.before.before in
       let read = some.before in
-      let off = (after (checked read)).off in
-      let deeper = (above some).0 in
-      let scan = c.before.before.before.before.hub-check-for-change.ensures n m (omega (arith, off, deeper)) (omega (arith, off, deeper)) in
+      let free = (after (checked read)).free in
+      let scan = c.before.before.before.before.hub-check-for-change.ensures n m (omega (arith, free)) (omega (arith, (above some).0)) in
       goes-below _ _ _ _ (check read n h) (child read) some.if1.false (λ z. test.if2.false (test.before.byte-at.ensures ∙ z)) scan
 
   pub met : {M : Type 1} → lts.Closed calls (Pre t) Post M
