@@ -140,6 +140,10 @@ def turn_code(code, bare, behind, clashes={}):
     return TOKEN.sub(one, code)
 
 
+def turned(match):
+    return respelled(match.group(0)) if humped(match.group(0)) else match.group(0)
+
+
 def turn_import(line, given):
     """An import: each name that its module gives."""
     match = USE.match(line)
@@ -148,10 +152,8 @@ def turn_import(line, given):
     constants = given.get(match.group(2), {}) | CLASHES.get(match.group(2), {})
     def one(item):
         words = item.group(0).split()
-        words[0] = constants.get(words[0], respelled(words[0]) if humped(words[0]) else words[0])
-        if len(words) == 3 and humped(words[2]):
-            words[2] = respelled(words[2])
-        return " ".join(words)
+        words[0] = constants.get(words[0]) or TOKEN.sub(turned, words[0])
+        return " ".join(words[:2] + [TOKEN.sub(turned, word) for word in words[2:]])
     start, end = match.span(4)
     return line[:start] + re.sub(r"[^,\s][^,]*", one, line[start:end]) + line[end:]
 

@@ -1,4 +1,6 @@
 // Reads outcomes on standard input, attaches an empty store at speed 0, and writes the log bytes.
+#![tactic(auto)]
+
 ghost use Rattle.std.specs.Prelude.{◌≡◌, ◌*◌, ◌≤◌, length, take, replicate};
 ghost use Rattle.usb_types.specs.Actions.{action_length};
 ghost use Rattle.io.specs.Counts.{IsPrefixLen};

@@ -1,4 +1,6 @@
 // The calls that the kernel makes: numbers and byte slices.
+#![tactic(auto)]
+
 ghost use Rattle.std.specs.Prelude.{◌≡◌};
 ghost use Rattle.usb_model.specs.Entry.{root_attach, scan, port_check, child_reset, child_check, retried_reset, connection_change, configuration_walk};
 ghost use Rattle.usb_entry.specs.Replies.{lent, left, walk_left};

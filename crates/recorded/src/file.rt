@@ -9,14 +9,14 @@ use crate::head::{
 use libc::STDOUT_FILENO;
 
 // What calls.bin holds next.
-#[derive(Drop)]
+#[derive(Clone, Copy)]
 pub enum NextCall {
     Call { asked: Asked, recorded: Recorded },
     End,
 }
 
 // What walks.bin holds next.
-#[derive(Drop)]
+#[derive(Clone, Copy)]
 pub enum NextWalk {
     Walk { recorded: RecordedWalk },
     End,

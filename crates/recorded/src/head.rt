@@ -18,7 +18,7 @@ pub const MAX_RECORD: usize = 969;
 pub const MAX_BYTES: usize = 65536;
 
 // What a call is run on.
-#[derive(Drop)]
+#[derive(Clone, Copy)]
 pub struct Asked {
     pub flags: u8,
     pub entry: u8,
@@ -32,7 +32,7 @@ pub struct Asked {
 }
 
 // What came back from the original.
-#[derive(Drop)]
+#[derive(Clone, Copy)]
 pub struct Recorded {
     pub answer: i32,
     pub requests: u64,
@@ -40,7 +40,7 @@ pub struct Recorded {
     pub store_sum: u32,
 }
 
-#[derive(Drop)]
+#[derive(Clone, Copy)]
 pub struct RecordedWalk {
     pub descriptors_len: usize,
     pub record_len: usize,

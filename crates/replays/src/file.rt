@@ -9,7 +9,7 @@ use recorded::file::{NextCall, NextWalk, read_call, read_walk};
 const WALK: usize = 7;
 
 // What a file holds next.
-#[derive(Drop)]
+#[derive(Clone, Copy)]
 pub enum Next {
     Replayed { entry: usize, agrees: bool },
     End,

@@ -1,4 +1,6 @@
 // A recorded call or walk, run on slices.
+#![tactic(auto)]
+
 pub mod file;
 
 ghost use Rattle.std.specs.Prelude.{◌≡◌, true, length};

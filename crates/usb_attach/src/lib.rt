@@ -1,4 +1,6 @@
 // usbd.rs, UsbAttachDevice up to the class of the device.
+#![tactic(auto)]
+
 ghost use Rattle.std.specs.Prelude.{◌<◌};
 ghost use Rattle.usb_store.specs.Layout.{place_count};
 ghost use Rattle.usb_transfer.specs.Runs.{Ready, Does};

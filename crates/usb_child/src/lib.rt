@@ -1,4 +1,6 @@
 // device/hub.rs, HubPortConnectionChanged up to the attach of the new device.
+#![tactic(auto)]
+
 ghost use Rattle.std.specs.Prelude.{◌≡◌, ◌<◌, length, get_or};
 ghost use Rattle.usb_store.specs.Layout.{place_count, store_length, ports_per_hub};
 ghost use Rattle.usb_transfer.specs.Runs.{Ready, Does};
@@ -133,7 +135,7 @@ fn place_child(
 }
 
 // The place of a device that came; 32 where the answer is not Ok.
-#[derive(Drop)]
+#[derive(Clone, Copy)]
 pub struct NewChild {
     pub step: Step,
     pub place: usize,

@@ -1,4 +1,6 @@
 // device/hub.rs: the port at which a child stands, and HubChildReset.
+#![tactic(auto)]
+
 ghost use Rattle.std.specs.Prelude.{◌≡◌, ◌≤◌, ◌<◌, length};
 ghost use Rattle.usb_store.specs.Layout.{place_count, store_length, max_children_field, ports_per_hub};
 ghost use Rattle.usb_store.specs.Access.{byte_at};
@@ -13,7 +15,7 @@ use usb_transfer::log::Step;
 use usb_types::types::{Answer, ErrorCode, wide};
 
 // The port of a child, if it stands at one of this hub.
-#[derive(Drop)]
+#[derive(Clone, Copy)]
 pub enum ChildPort {
     At(usize),
     Nowhere,

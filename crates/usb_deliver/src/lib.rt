@@ -1,4 +1,6 @@
 // A descriptor read that hands back the delivered part of the caller's outcomes.
+#![tactic(auto)]
+
 ghost use Rattle.std.specs.Prelude.{◌≡◌, ◌<◌};
 ghost use Rattle.usb_model.specs.Transfer as Model;
 ghost use Rattle.usb_message.specs.Parts.{Fits};
@@ -12,7 +14,7 @@ use usb_transfer::outcome::delivered;
 use usb_types::types::Answer;
 
 // What a read hands back: answer and progress, and the bytes, which are a part of the outcomes.
-#[derive(Drop)]
+#[derive(Clone, Copy)]
 pub struct Delivery<'a> {
     pub step: Step,
     pub bytes: &'a [u8],

@@ -8,7 +8,7 @@ use usb_store::{
 };
 
 // What the ports' functions read of a hub: bytes 56 to 106 of its place.
-#[derive(Drop)]
+#[derive(Clone, Copy)]
 pub struct HubDevice {
     pub port_status: [u32; 10],
     pub children: [u8; 10],

@@ -1,3 +1,5 @@
 // device.rs and hcd/hub.rs: the records of the store.
+#![tactic(auto)]
+
 pub mod device;
 pub mod hub;

@@ -7,7 +7,7 @@ use Rattle.usb_types.specs.declared.types.Refusal.{Refusal}
 use Rattle.usb_types.specs.declared.types.Refusal.TheVariants.{BadArgument, StoreDamaged, AlreadyAttached, RootSpeed}
 use Rattle.usb_store.specs.Layout.{used_field}
 use Rattle.usb_store.specs.Access.{byte_at}
-use Rattle.usb_model.specs.Entry.{Lent, accepted, refused, refused_if, ◌elseIf◌, wrong_length, damaged, no_hub, root_verdict, hub_verdict}
+use Rattle.usb_model.specs.Entry.{Lent, accepted, refused, refused_if, ◌else_if◌, wrong_length, damaged, no_hub, root_verdict, hub_verdict}
 use Rattle.usb_entry.specs.declared.verdict.Verdict.{Verdict}
 use Rattle.usb_entry.specs.declared.verdict.Verdict.TheVariants.{Accepted, Refused}
 use Rattle.usb_entry.specs.Replies.{told}

@@ -8,7 +8,7 @@ use usb_types::types::{Refusal, answer_number, refusal_number};
 
 // The answer by document 01's table, and how many requests were logged.
 #[repr(C)]
-#[derive(Drop)]
+#[derive(Clone, Copy)]
 pub struct Reply {
     pub answer: i32,
     pub requests: u64,

@@ -9,7 +9,7 @@ use usb_store::{HUB, PLACES, STORE_LEN, USED, byte_at};
 use usb_types::types::Refusal;
 
 // May a call run?
-#[derive(Drop)]
+#[derive(Clone, Copy)]
 pub enum Verdict {
     Accepted,
     Refused(Refusal),

@@ -1,4 +1,6 @@
 // usbd.rs: the device descriptor, the address, and the place of a new device.
+#![tactic(auto)]
+
 ghost use Rattle.std.specs.Prelude.{◌≡◌, ◌≤◌, ◌<◌, length};
 ghost use Rattle.usb_store.specs.Layout.{place_count, store_length};
 ghost use Rattle.usb_model.specs.Usbd as Model;

@@ -1,4 +1,6 @@
 // The control message over document 01's stand-in for HcdSubmitControlMessage, and the descriptor read.
+#![tactic(auto)]
+
 ghost use Rattle.std.specs.Prelude.{◌≡◌, ◌≤◌, ◌<◌, min, length, drop};
 ghost use Rattle.usb_types.specs.Actions.{request_action};
 ghost use Rattle.usb_types.specs.Outcomes.{result_of};
@@ -20,7 +22,7 @@ use usb_types::request::{GET_DESCRIPTOR, UsbDeviceRequest, device_request};
 use usb_types::types::{Answer, ErrorCode, error_word, result_of, size_from_number, wide};
 
 // What a transfer hands back: where it answered Ok, the first len data bytes of the outcome that stood next.
-#[derive(Drop)]
+#[derive(Clone, Copy)]
 pub struct Transfer {
     pub step: Step,
     pub len: usize,

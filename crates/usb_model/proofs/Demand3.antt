@@ -27,7 +27,7 @@ use Rattle.usb_model.proofs.Bound.{root-attach-requests}
 use Rattle.usb_model.proofs.Keeps.{Any, Left, left-holds}
 use Rattle.usb_model.proofs.SoundKept.{Stays, hub-place, check-connection-stays, check-for-change-stays, root-hub-stays}
 use Rattle.usb_model.proofs.Reading.{Reads}
-use Rattle.usb_model.proofs.Triples.{State, store, Leads, fine, bad}
+use Rattle.usb_model.proofs.Triples.{State, store, Leads, fine, bad, gone}
 use Rattle.usb_model.proofs.Invariant.{expected, PlaceInv}
 use Rattle.usb_model.proofs.Middle.{Fine}
 use Rattle.usb_model.proofs.Claims.{check-does}
@@ -78,6 +78,7 @@ leads-ended : {h : List Event} {H : ℕ → Type 0} {r : Ran World (Unit {0})} {
     → EndState h H w
 leads-ended (fine s f) finished = record { state = s; is = refl; is-fine = f }
 leads-ended (bad s f) failed = record { state = s; is = refl; is-fine = f }
+leads-ended gone e = elim e [ ]
 
 left_ended : {r : Ran World (Unit {0})} {w : World} → Ended r w → end_of r ≡ w
 left_ended finished = refl

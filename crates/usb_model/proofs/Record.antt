@@ -118,6 +118,8 @@ ends_same : (f f' : Program Walk (Unit {0})) (r : Ran Walk Bool) → Ends r → 
 unfolding when
 ends_same f f' (done false k) well = refl
 ends_same f f' (fail e k) badly = refl
+ends_same f f' (done true k) e = elim e [ ]
+ends_same f f' (halt x k) e = elim e [ ]
 
 goes_same : (f f' : Program Walk (Unit {0})) (r : Ran Walk Bool) → ((k : Walk) → f k ≡ f' k)
     → on r (λ goes. when goes f) ≡ on r (λ goes. when goes f')

@@ -1,7 +1,8 @@
 // What is right: specs/ defines every function of the driver and every entry point, proofs/ has the laws on them.
+#![tactic(auto)]
 
 // How far a call has come: bytes of the log written, bytes of the outcomes taken, requests logged.
-#[derive(Drop)]
+#[derive(Clone, Copy)]
 pub struct Progress {
     pub logged: usize,
     pub taken: usize,
@@ -9,7 +10,7 @@ pub struct Progress {
 }
 
 // Where the bytes that a transfer delivers go: at most room of them, to a field of the device.
-#[derive(Drop)]
+#[derive(Clone, Copy)]
 pub struct Buffer {
     pub field: usize,
     pub room: usize,

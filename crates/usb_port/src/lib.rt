@@ -1,4 +1,6 @@
 // device/hub.rs: HubPortReset2.
+#![tactic(auto)]
+
 ghost use Rattle.std.specs.Prelude.{◌<◌};
 ghost use Rattle.usb_store.specs.Layout.{place_count, ports_per_hub};
 ghost use Rattle.usb_model.specs.Hub as Model;
@@ -14,7 +16,7 @@ use usb_transfer::log::{Step, micro_delay};
 use usb_types::types::{Answer, ErrorCode};
 
 // The reads of a status: was it seen what they wait for? False where the answer is not Ok.
-#[derive(Drop)]
+#[derive(Clone, Copy)]
 pub struct Awaited {
     pub step: Step,
     pub seen: bool,

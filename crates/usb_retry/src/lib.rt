@@ -1,4 +1,6 @@
 // device/hub.rs, HubPortReset.
+#![tactic(auto)]
+
 ghost use Rattle.std.specs.Prelude.{◌≡◌, ◌<◌};
 ghost use Rattle.usb_store.specs.Layout.{place_count, ports_per_hub};
 ghost use Rattle.usb_model.specs.Hub as Model;

@@ -1,4 +1,6 @@
 // The store: 32 places of 1,152 bytes, read and written by place and by the field's offset in it.
+#![tactic(auto)]
+
 ghost use Rattle.std.specs.Prelude.{◌≡◌, ◌+◌, ◌≤◌, ◌<◌, length, replicate};
 ghost use Rattle.usb_store.specs.Access.{Within, write, byte_at, bytes_at, number_at, with_byte, with_bytes, with_number};
 

@@ -9,7 +9,7 @@ use usb_types::pipe::{ACTION_LEN, frame_interval_action, wait_action};
 use usb_types::types::{Answer, Halt};
 
 // What a function of the driver answers, and how far the call has come.
-#[derive(Drop)]
+#[derive(Clone, Copy)]
 pub struct Step {
     pub answer: Answer,
     pub at: Progress,

@@ -9,14 +9,14 @@ use usb_types::types::{Halt, outcome_listed, wide};
 pub const HEADER_LEN: usize = 4;
 
 // The submit code, the error, and how many data bytes follow.
-#[derive(Drop)]
+#[derive(Clone, Copy)]
 pub struct Header {
     pub submit: u8,
     pub error: u8,
     pub size: usize,
 }
 
-#[derive(Drop)]
+#[derive(Clone, Copy)]
 pub enum NextOutcome {
     Whole(Header),
     Missing(Halt),

@@ -3,7 +3,7 @@ use mathlib.Core.Path.{◌≡◌, ap}
 use mathlib.Core.Logic.{◌≢◌}
 use Prim.Native.Nat.{ℕ, ◌<◌}
 use borrow.Author.Tests.{ne_eqb}
-use lib.Dec.{T, eqb, eqb→eq}
+use lib.Dec.{T, eqb→eq}
 use lib.IntN.{ℤ, pos, negsuc}
 use lib.ListN.{get_or}
 use Rattle.usb_types.specs.Numbers.{minus, same_int}

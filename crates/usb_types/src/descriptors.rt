@@ -10,13 +10,14 @@ pub const CONFIGURATION_DESCRIPTOR: u8 = 2;
 pub const HUB_DESCRIPTOR: u8 = 41;
 
 // What the configuration walk does with a descriptor.
-#[derive(Drop)]
+#[derive(Clone, Copy)]
 pub enum DescriptorKind {
     Interface,
     Endpoint,
     Other,
 }
 
+#[tactic(auto, unfolding(crate::specs::Descriptors::kind_of))]
 pub fn descriptor_kind(number: u8) -> DescriptorKind
     ensures { result ≡ kind_of number }
 {
@@ -28,6 +29,7 @@ pub fn descriptor_kind(number: u8) -> DescriptorKind
 }
 
 // bInterfaceClass is that of a hub, USB 2.0 11.23.1.
+#[tactic(auto, unfolding(crate::specs::Descriptors::is_hub_class))]
 pub fn is_hub_class(class: u8) -> bool
     ensures { result ≡ is_hub_class class }
 {

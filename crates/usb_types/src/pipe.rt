@@ -7,7 +7,7 @@ use crate::request::{UsbDeviceRequest, direction_bit};
 pub const ACTION_LEN: usize = 16;
 
 // What an action shows of UsbPipeAddress besides the direction.
-#[derive(Drop)]
+#[derive(Clone, Copy)]
 pub struct UsbPipeAddress {
     pub device: u8,
     pub speed: u8,

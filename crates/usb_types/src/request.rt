@@ -22,7 +22,7 @@ pub const HUB: u8 = 0x20;
 
 pub const PORT: u8 = 0x23;
 
-#[derive(Drop)]
+#[derive(Clone, Copy)]
 pub struct UsbDeviceRequest {
     pub request_type: u8,
     pub request: u8,
@@ -33,6 +33,7 @@ pub struct UsbDeviceRequest {
 
 // Direction of the data stage of a standard request, by its code: 1 In, 0 Out. The hub class requests that the driver sends
 // (GetStatus, ClearFeature, SetFeature, GetDescriptor) have the same codes and directions.
+#[tactic(auto, unfolding(crate::specs::Requests::direction_of))]
 pub fn direction_of(request: u8) -> u8
     ensures { (result ≡ direction_of request) × (result < 2) }
 {
@@ -43,6 +44,7 @@ pub fn direction_of(request: u8) -> u8
 }
 
 // Bit 7 of bmRequestType: 1 In, 0 Out.
+#[tactic(auto, unfolding(crate::specs::Requests::direction_bit))]
 pub fn direction_bit(kind: u8) -> u8
     ensures { result ≡ direction_bit kind }
 {
@@ -52,6 +54,7 @@ pub fn direction_bit(kind: u8) -> u8
     }
 }
 
+#[tactic(auto, unfolding(crate::specs::Requests::device_request))]
 pub fn device_request(
     recipient: u8,
     request: u8,

@@ -12,7 +12,7 @@ pub fn wide(b: u8) -> usize
 }
 
 // ResultCode -1 to -9, and the two codes of document 01 that travel upward as these do.
-#[derive(Drop)]
+#[derive(Clone, Copy)]
 pub enum ErrorCode {
     General,
     Argument,
@@ -28,7 +28,7 @@ pub enum ErrorCode {
 }
 
 // What stops the whole call.
-#[derive(Drop)]
+#[derive(Clone, Copy)]
 pub enum Halt {
     GarbledOutcome,
     OutcomesSpent,
@@ -36,7 +36,7 @@ pub enum Halt {
 }
 
 // What a function of the driver answers.
-#[derive(Drop)]
+#[derive(Clone, Copy)]
 pub enum Answer {
     Ok,
     Error(ErrorCode),
@@ -44,7 +44,7 @@ pub enum Answer {
 }
 
 // What an entry point answers before it does anything.
-#[derive(Drop)]
+#[derive(Clone, Copy)]
 pub enum Refusal {
     BadArgument,
     StoreDamaged,
@@ -123,6 +123,7 @@ const ERROR_WORDS: [u32; 32] = [
 ];
 
 // Neither code of an outcome is garbled.
+#[tactic(auto, unfolding(crate::specs::Outcomes::listed))]
 pub fn outcome_listed(submit: u8, error: u8) -> bool
     ensures { result ≡ listed submit error }
 {
@@ -136,6 +137,7 @@ pub fn outcome_listed(submit: u8, error: u8) -> bool
 }
 
 // UsbTransferError of an outcome's error.
+#[tactic(auto, unfolding(crate::specs::Outcomes::error_word))]
 pub fn error_word(error: u8) -> u32
     requires { error < 32 }
     ensures { result ≡ error_word error }
@@ -148,6 +150,7 @@ pub fn error_word(error: u8) -> u32
 }
 
 // The result of UsbControlMessage.
+#[tactic(auto, unfolding(crate::specs::Outcomes::result_of))]
 pub fn result_of(submit: u8, error: u8) -> Answer
     requires { submit < 10 }
     ensures { result ≡ result_of submit error }
@@ -165,6 +168,7 @@ pub fn result_of(submit: u8, error: u8) -> Answer
 }
 
 // UsbPacketSize by its number: 0 to 3 for 8, 16, 32 and 64 bytes.
+#[tactic(auto, unfolding(crate::specs::Actions::packet_size))]
 pub fn size_from_number(size: u8) -> u8
     ensures { result ≡ packet_size size }
 {

@@ -1,4 +1,6 @@
 // Replays the recorded answers of the original through the calls, and writes how many agreed, by entry point.
+#![tactic(auto)]
+
 ghost use Rattle.std.specs.Prelude.{◌≡◌};
 ghost use Rattle.usb_store.specs.Layout.{empty_store};
 ghost use Rattle.vectors.specs.Counts.{SameLengths, CountsFile};
