@@ -8,9 +8,6 @@ use Prim.Native.Nat.{ℕ, suc, ◌+◌, ◌-◌, ◌≤◌, ◌<◌}
 use native.Mathlib.Nat.{sub-zero}
 use native.Mathlib.Omega.{arith}
 use lib.ListN.{length}
-use types.Run.{OneOf}
-use denote.Enum.Declared.{tag_of}
-use Rattle.usb_types.specs.contracts.types.Answer.{the_type}
 use Rattle.usb_types.specs.declared.types.ErrorCode.{ErrorCode}
 use Rattle.usb_types.specs.declared.types.Halt.{Halt}
 use Rattle.usb_types.specs.declared.types.Answer.{Answer}
@@ -31,11 +28,11 @@ NotOk (Error e) = Unit {0}
 NotOk (Stop h) = Unit {0}
 
 -- the `else` of `let Answer::Ok = a else { .. }`
-pub not-ok : (a : Answer) → OneOf (1 ∷ 2 ∷ []) (tag_of the_type a) → NotOk a
+pub not-ok : (a : Answer) → (a ≡ Ok → ⊥) → NotOk a
 unfolding NotOk
-not-ok Ok t = ⊎_elim (λ (h : ◌≡◌ {A = ℕ} 0 1). omega arith) (λ (h : ◌≡◌ {A = ℕ} 0 2). omega arith) t
-not-ok (Error e) t = tt
-not-ok (Stop h) t = tt
+not-ok Ok n = absurd (n refl)
+not-ok (Error e) n = tt
+not-ok (Stop h) n = tt
 
 -- what is said of an answer that is not Ok
 pub otherwise : (p : Type 0) {q : Type 0} (a : Answer) → NotOk a → q → IfOk a p q
@@ -195,11 +192,11 @@ NotStop (Error e) = Unit {0}
 NotStop (Stop h) = ⊥
 
 -- after `if let Answer::Stop(_) = a { return .. }`
-pub not-stop : (a : Answer) → OneOf (0 ∷ 1 ∷ []) (tag_of the_type a) → NotStop a
+pub not-stop : (a : Answer) → ((h : Halt) → a ≡ Stop h → ⊥) → NotStop a
 unfolding NotStop
 not-stop Ok t = tt
 not-stop (Error e) t = tt
-not-stop (Stop h) t = ⊎_elim (λ (e : ◌≡◌ {A = ℕ} 2 0). omega arith) (λ (e : ◌≡◌ {A = ℕ} 2 1). omega arith) t
+not-stop (Stop h) n = n h refl
 
 caught-is : (a : Answer) (w : World) → NotStop a → caught (gave a tt w) ≡ done a w
 unfolding NotStop

@@ -1,6 +1,6 @@
 -- What a function of the driver promises: that it ran a program of the model, from the world at entry to the world at exit.
 use Rattle.std.specs.Prelude.{◌≡◌, List, ℕ, ◌+◌, ◌≤◌, length, take, drop}
-use Rattle.std.specs.Borrow.{Bor}
+use Rattle.std.specs.Borrow.{Bor, MutBor}
 use denote.Triple.Both.{Both}
 use Rattle.usb_types.specs.declared.types.Answer.{Answer}
 use Rattle.usb_types.specs.declared.types.Answer.TheVariants.{Ok, Error, Stop}
@@ -80,23 +80,27 @@ pub record Writes (m : M (Unit {0})) (log : List ℕ) (at : Progress) (a : Answe
 
 -- ---- the same of lent slices: `store`, `log` and `outcomes` are the names that a contract has
 
+-- one that the function may write, and one that it only reads
 abbrev pub Lent : Type 0
-Lent = Both (Bor (List ℕ)) (Bor (List ℕ))
+Lent = Both (MutBor (List ℕ)) (MutBor (List ℕ))
 
-abbrev pub Ready : Bor (List ℕ) → Bor (List ℕ) → Bor (List ℕ) → Progress → Type 0
+abbrev pub Shared : Type 0
+Shared = Both (Bor (List ℕ)) (Bor (List ℕ))
+
+abbrev pub Ready : MutBor (List ℕ) → MutBor (List ℕ) → Bor (List ℕ) → Progress → Type 0
 Ready store log outcomes at = Fit (here store.now log.now outcomes.now at)
 
 -- of a function that takes the log alone
 abbrev pub Logs : M (Unit {0}) → Lent → Progress → Step → Type 0
 Logs m log at r = Writes m log.entry.now at r.answer log.exit.now r.at
 
-abbrev pub Does : M (Unit {0}) → Lent → Lent → Lent → Progress → Step → Type 0
+abbrev pub Does : M (Unit {0}) → Lent → Lent → Shared → Progress → Step → Type 0
 Does m store log outcomes at r =
     Ends m (here store.entry.now log.entry.now outcomes.entry.now at) r.answer tt
     (here store.exit.now log.exit.now outcomes.entry.now r.at)
 
 -- of a function that gives a value besides its step, with a fact on both
-abbrev pub DoesSo : {A : Type 0} → Type 0 → M A → Lent → Lent → Lent → Progress → Step → A → Type 0
+abbrev pub DoesSo : {A : Type 0} → Type 0 → M A → Lent → Lent → Shared → Progress → Step → A → Type 0
 DoesSo p m store log outcomes at step x =
     EndsSo p m (here store.entry.now log.entry.now outcomes.entry.now at) step.answer x
     (here store.exit.now log.exit.now outcomes.entry.now step.at)
