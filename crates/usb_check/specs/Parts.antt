@@ -7,7 +7,7 @@ use Rattle.usb_model.specs.Programs.{◌>>=◌, ◌>>◌, return, ignore, when}
 use Rattle.usb_model.specs.World.{M, get}
 use Rattle.usb_model.specs.Features.{port_connection, port_enable, port_suspend, port_over_current, c_port_connection, c_port_enable, c_port_over_current, c_port_reset, bit}
 use Rattle.usb_model.specs.Hub.{differ, clear_port_feature, hub_power_on, hub_port_get_status, port_status}
-use Rattle.usb_transfer.specs.Runs.{IfOk, Lent, DoesSo}
+use Rattle.usb_transfer.specs.Runs.{IfOk, Lent, Shared, DoesSo}
 use Rattle.usb_check.specs.declared.Due.{Due}
 use Rattle.usb_check.specs.declared.Found.{Found}
 
@@ -55,6 +55,6 @@ end_check hub port status = do
 abbrev pub NothingDue : Answer → Due → Type 0
 NothingDue a due = IfOk a (Unit {0}) (due ≡ record { status = 0; dropped = false; changed = false })
 
-abbrev pub Finds : M Due → Lent → Lent → Lent → Progress → Found → Type 0
+abbrev pub Finds : M Due → Lent → Lent → Shared → Progress → Found → Type 0
 Finds m store log outcomes at r =
     DoesSo (NothingDue r.step.answer r.due) m store log outcomes at r.step r.due

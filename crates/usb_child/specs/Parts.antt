@@ -10,7 +10,7 @@ use Rattle.usb_model.specs.Features.{port_connection, port_enable, c_port_connec
 use Rattle.usb_model.specs.Usbd.{usb_allocate_device}
 use Rattle.usb_model.specs.Hub.{hub_port_get_status, clear_port_feature, port_status, hub_port_reset2, speed_of}
 use Rattle.usb_transfer.specs.declared.log.Step.{Step}
-use Rattle.usb_transfer.specs.Runs.{IfOk, Lent, DoesSo}
+use Rattle.usb_transfer.specs.Runs.{IfOk, Lent, Shared, DoesSo}
 use Rattle.usb_child.specs.declared.NewChild.{NewChild}
 
 unfoldable pub start_change : ℕ → ℕ → M (Unit {0})
@@ -58,6 +58,6 @@ abbrev pub no_child : Step → NewChild
 no_child step = record { step = step; place = place_count }
 
 -- a place where the answer is Ok, else none
-abbrev pub GivesPlace : M ℕ → Lent → Lent → Lent → Progress → NewChild → Type 0
+abbrev pub GivesPlace : M ℕ → Lent → Lent → Shared → Progress → NewChild → Type 0
 GivesPlace m store log outcomes at r =
     DoesSo (IfOk r.step.answer (r.place < place_count) (r.place ≡ place_count)) m store log outcomes at r.step r.place

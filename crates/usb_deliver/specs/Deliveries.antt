@@ -6,7 +6,7 @@ use Rattle.usb_model.specs.declared.Progress.{Progress}
 use Rattle.usb_model.specs.Programs.{◌>>=◌}
 use Rattle.usb_model.specs.World.{World, M}
 use Rattle.usb_transfer.specs.declared.log.Step.{Step}
-use Rattle.usb_transfer.specs.Runs.{here, Ends, data_of, IfOk, Enough, Lent}
+use Rattle.usb_transfer.specs.Runs.{here, Ends, data_of, IfOk, Enough, Lent, Shared}
 use Rattle.usb_deliver.specs.declared.Delivery.{Delivery}
 
 -- the data bytes where the answer is Ok, else none
@@ -25,13 +25,13 @@ pub record Delivered (m : M (List ℕ)) (minimum : ℕ) (w : World) (a : Answer)
   pub none : None a bytes
   pub enough : Enough a minimum (length bytes)
 
-abbrev pub Delivers : M (List ℕ) → ℕ → Lent → Lent → Lent → Progress → Delivery → Type 0
+abbrev pub Delivers : M (List ℕ) → ℕ → Lent → Lent → Shared → Progress → Delivery → Type 0
 Delivers m minimum store log outcomes at r =
     Delivered m minimum (here store.entry.now log.entry.now outcomes.entry.now at) r.step.answer r.bytes.now
     (here store.exit.now log.exit.now outcomes.entry.now r.step.at)
 
 -- it goes on as k does with the bytes, whatever program gave them
-abbrev pub Follows : (List ℕ → M (Unit {0})) → Lent → Lent → Lent → Step → List ℕ → Step → Type 0
+abbrev pub Follows : (List ℕ → M (Unit {0})) → Lent → Lent → Shared → Step → List ℕ → Step → Type 0
 Follows k store log outcomes step bytes r =
     (m : M (List ℕ)) (w : World)
     → Ends m w step.answer bytes (here store.entry.now log.entry.now outcomes.entry.now step.at)

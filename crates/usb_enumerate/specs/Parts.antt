@@ -9,7 +9,7 @@ use Rattle.usb_model.specs.declared.Progress.{Progress}
 use Rattle.usb_model.specs.World.{M}
 use Rattle.usb_model.specs.Usbd.{usb_allocate_device}
 use Rattle.usb_message.specs.declared.Transfer.{Transfer}
-use Rattle.usb_transfer.specs.Runs.{Given, OnStore, Lent, DoesSo}
+use Rattle.usb_transfer.specs.Runs.{Given, OnStore, Lent, Shared, DoesSo}
 
 -- low speed devices have packets of 8 bytes
 unfoldable pub first_size : ℕ → ℕ
@@ -18,7 +18,7 @@ first_size speed = cond (eqb speed low_speed) 8 64
 -- ---- what the functions promise
 
 -- of a read that gives how many bytes came
-abbrev pub Counts : M ℕ → Lent → Lent → Lent → Progress → Transfer → Type 0
+abbrev pub Counts : M ℕ → Lent → Lent → Shared → Progress → Transfer → Type 0
 Counts m store log outcomes at r =
     DoesSo (Given r.step.answer outcomes.entry.now at.taken r.len) m store log outcomes at r.step r.len
 

@@ -13,7 +13,7 @@ use Rattle.usb_model.specs.declared.Progress.{Progress}
 use Rattle.usb_model.specs.Programs.{◌>>=◌, ◌>>◌, return, succeed}
 use Rattle.usb_model.specs.World.{M, put_bytes, put_number}
 use Rattle.usb_model.specs.Transfer.{take_outcome}
-use Rattle.usb_transfer.specs.Runs.{here, Fit, Gives, Lent}
+use Rattle.usb_transfer.specs.Runs.{here, Fit, Gives, Lent, Shared}
 use Rattle.usb_message.specs.declared.Transfer.{Transfer}
 
 -- the pipe of the device at a place to an address
@@ -62,13 +62,13 @@ handed answer at n = record { step = record { answer = answer; at = at }; len = 
 -- ---- what the functions promise
 
 -- of a function that does not take the log
-abbrev pub Receives : M (List ℕ) → Lent → Lent → Progress → Transfer → Type 0
+abbrev pub Receives : M (List ℕ) → Lent → Shared → Progress → Transfer → Type 0
 Receives m store outcomes at r =
     (l : List ℕ) → Fit (here store.entry.now l outcomes.entry.now at)
     → Gives m (here store.entry.now l outcomes.entry.now at) r.step.answer r.len
     (here store.exit.now l outcomes.entry.now r.step.at)
 
-abbrev pub Transfers : M (List ℕ) → Lent → Lent → Lent → Progress → Transfer → Type 0
+abbrev pub Transfers : M (List ℕ) → Lent → Lent → Shared → Progress → Transfer → Type 0
 Transfers m store log outcomes at r =
     Gives m (here store.entry.now log.entry.now outcomes.entry.now at) r.step.answer r.len
     (here store.exit.now log.exit.now outcomes.entry.now r.step.at)

@@ -6,7 +6,7 @@ use Rattle.usb_model.specs.Programs.{◌>>=◌, ◌>>◌, ignore}
 use Rattle.usb_model.specs.World.{M, micro_delay}
 use Rattle.usb_model.specs.Features.{port_reset, c_port_reset}
 use Rattle.usb_model.specs.Hub.{set_port_feature, clear_port_feature, hub_port_get_status}
-use Rattle.usb_transfer.specs.Runs.{IfOk, Lent, DoesSo}
+use Rattle.usb_transfer.specs.Runs.{IfOk, Lent, Shared, DoesSo}
 use Rattle.usb_port.specs.declared.Awaited.{Awaited}
 
 -- ---- lines of `await_reset`, `await_enabled`, `hub_port_reset2` and `reset_tries`
@@ -27,6 +27,6 @@ reset_port hub port = do
 abbrev pub Told : Answer → Bool → Type 0
 Told a seen = IfOk a (Unit {0}) (seen ≡ false)
 
-abbrev pub Sees : M Bool → Lent → Lent → Lent → Progress → Awaited → Type 0
+abbrev pub Sees : M Bool → Lent → Lent → Shared → Progress → Awaited → Type 0
 Sees m store log outcomes at r =
     DoesSo (Told r.step.answer r.seen) m store log outcomes at r.step r.seen

@@ -1,0 +1,12 @@
+-- `usb_message::handed_back` meets its contract. Assumes nothing.
+use borrow.Author.Rules.{rules}
+use mathlib.Core.Path.{refl}
+use Rattle.usb_transfer.proofs.Steps.{not-ok}
+use Rattle.usb_message.proofs.Messages.{handed-none}
+use Rattle.usb_message.proofs.handed_back.Goals as goal
+
+pub returns-in_default : goal.returns-in_default
+returns-in_default c = handed-none _ _ _ (not-ok _ c.in_default.not-Ok)
+
+pub returns : goal.returns
+returns c = rw c.in-Ok.is refl
