@@ -1,0 +1,8 @@
+-- `usb_hub::ports::port_status` meets its contract. Assumes nothing.
+use borrow.Author.Rules.{rules}
+use mathlib.Core.Path.{◌∙◌}
+use Rattle.usb_device.proofs.HubRecord.{status-at}
+use Rattle.usb_hub.proofs.ports.port_status.Goals as goal
+
+pub returns : goal.returns
+returns c = c.status_of.ensures ∙ rw c.load_hub.ensures (status-at _ _ _ c.requires.2)

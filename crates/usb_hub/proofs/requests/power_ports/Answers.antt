@@ -1,0 +1,30 @@
+-- `usb_hub::requests::power_ports` meets its contract. The loop's invariant: what is left to run is the whole. Assumes nothing.
+use borrow.Author.Rules.{rules}
+use mathlib.Core.Path.{refl}
+use Prim.Native.Nat.{◌-◌}
+use Rattle.usb_model.specs.Programs.{ignore, each}
+use Rattle.usb_model.specs.Features.{port_power}
+use Rattle.usb_model.specs.Hub.{set_port_feature}
+use Rattle.usb_transfer.specs.Runs.{here}
+use Rattle.usb_transfer.proofs.Steps.{not-ok, as-ok, Going, going, ends_with, each-starts, each_last, each-ended, each_goes}
+use Rattle.usb_hub.specs.Parts.{power_ports}
+use Rattle.usb_hub.proofs.Parts.{ignores-as}
+use Rattle.usb_hub.proofs.requests.power_ports.Goals as goal
+
+pub loop-port-init : goal.loop-port-init
+unfolding power_ports
+loop-port-init c = each-starts _ _ _ refl (going _ c.requires.0)
+
+pub hub_change_port_feature-set-requires : goal.hub_change_port_feature-set-requires
+hub_change_port_feature-set-requires c = (c.loop-port.invariant.fit, c.requires.1, search rules)
+
+pub returns-in_default : goal.returns-in_default
+returns-in_default c = let set = ignores-as c.ignore-step.ensures c.hub_change_port_feature-set.ensures in
+    ends_with c.loop-port.invariant (each-ended _ _ _ c.loop-port-test.true set (not-ok _ c.in_default.not-Ok))
+
+pub loop-port-preserved : goal.loop-port-preserved
+loop-port-preserved c = let set = ignores-as c.ignore-step.ensures c.hub_change_port_feature-set.ensures in
+    each_goes _ _ _ c.loop-port-test.true c.loop-port.invariant (as-ok c.in-Ok.is set) c.hub_change_port_feature-set.auto.store c.hub_change_port_feature-set.auto.log
+
+pub returns : goal.returns
+returns c = rw c.ok.ensures (ends_with c.loop-port.invariant (each_last _ _ _ c.loop-port-test.false c.loop-port.invariant.fit))
