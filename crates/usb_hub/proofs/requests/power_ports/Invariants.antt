@@ -13,7 +13,7 @@ use Rattle.usb_hub.proofs.requests.power_ports.Given as goal
 
 abbrev pub invariant-loop-port : goal.invariant-loop-port
 invariant-loop-port l = Going (power_ports l.hub l.count) (here l.initial.store l.initial.log l.outcomes l.initial.next)
-    (each (l.count - port) port (λ port. ignore (set_port_feature l.hub port_power port))) (here l.store l.log l.outcomes l.next)
+    (each (l.count - l.port) l.port (λ port. ignore (set_port_feature l.hub port_power port))) (here l.store l.log l.outcomes l.next)
 
 abbrev pub decreases-loop-port : goal.decreases-loop-port
 decreases-loop-port l = l.count - l.port
