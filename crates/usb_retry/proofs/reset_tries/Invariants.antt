@@ -1,0 +1,14 @@
+-- `usb_retry::reset_tries` meets its contract. The loop's invariant: the tries that are left are the whole. Assumes nothing.
+use borrow.Author.Rules.{rules}
+use native.Mathlib.Omega.{arith}
+use Rattle.usb_model.specs.Hub.{reset_tries}
+use Rattle.usb_transfer.specs.Runs.{here}
+use Rattle.usb_transfer.proofs.Steps.{not-ok, as-ok, Going, going, ends_with}
+use Rattle.usb_retry.proofs.Tries.{tries-ended, tries-done, tries-goes, tries-none}
+use Rattle.usb_retry.proofs.reset_tries.Given as goal
+
+abbrev pub invariant-loop-left : goal.invariant-loop-left
+invariant-loop-left l = Going (reset_tries 3 l.hub l.port) (here l.initial.store l.initial.log l.outcomes l.initial.progress) (reset_tries l.left l.hub l.port) (here l.store l.log l.outcomes l.progress)
+
+abbrev pub decreases-loop-left : goal.decreases-loop-left
+decreases-loop-left l = l.left
