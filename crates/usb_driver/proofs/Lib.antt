@@ -1,4 +1,3 @@
-pub mod Cycles
 pub mod Lines
 pub mod Goes
 pub mod Reaches

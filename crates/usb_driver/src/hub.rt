@@ -18,7 +18,7 @@ use usb_store::{MAX_CHILDREN, byte_at};
 use usb_transfer::log::{Step, ok};
 use usb_types::types::{Answer, wide};
 
-#[cycle(change_if_hub_attach_hub_check_connection_hub_port_connection_changed_usb_attach_device)]
+#[cycle(attach)]
 pub fn hub_attach(
     store: &mut [u8],
     log: &mut [u8],
@@ -49,7 +49,7 @@ pub fn hub_attach(
     ok(progress)
 }
 
-#[cycle(change_if_hub_attach_hub_check_connection_hub_port_connection_changed_usb_attach_device)]
+#[cycle(attach)]
 pub fn hub_check_connection(
     store: &mut [u8],
     log: &mut [u8],
@@ -86,7 +86,7 @@ pub fn hub_check_connection(
 }
 
 // A connection change that is due; of its result only a stop counts.
-#[cycle(change_if_hub_attach_hub_check_connection_hub_port_connection_changed_usb_attach_device)]
+#[cycle(attach)]
 fn change_if(
     store: &mut [u8],
     log: &mut [u8],
@@ -106,7 +106,7 @@ fn change_if(
     ok(at)
 }
 
-#[cycle(change_if_hub_attach_hub_check_connection_hub_port_connection_changed_usb_attach_device)]
+#[cycle(attach)]
 pub fn hub_port_connection_changed(
     store: &mut [u8],
     log: &mut [u8],

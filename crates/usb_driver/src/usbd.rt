@@ -16,7 +16,7 @@ use usb_transfer::log::Step;
 use usb_types::descriptors::is_hub_class;
 use usb_types::types::{Answer, ErrorCode};
 
-#[cycle(change_if_hub_attach_hub_check_connection_hub_port_connection_changed_usb_attach_device)]
+#[cycle(attach)]
 pub fn usb_attach_device(
     store: &mut [u8],
     log: &mut [u8],
