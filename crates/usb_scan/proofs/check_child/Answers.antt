@@ -1,0 +1,27 @@
+-- `usb_scan::check_child` meets its contract. Assumes nothing.
+-- ---- once the check answered Ok
+use borrow.Author.Rules.{rules}
+use mathlib.Core.Path.{◌≡◌, refl, ap, ◌∙◌}
+use mathlib.Core.Bool.{not}
+use borrow.Author.Tests.{eq-eqb, ne_eqb}
+use Rattle.usb_store.specs.Layout.{child_field}
+use Rattle.usb_store.specs.Access.{byte_at}
+use Rattle.usb_model.specs.Programs.{throw}
+use Rattle.usb_transfer.proofs.Steps.{as-ok, not-ok, next, next-ended, got-as, done-if, done-unless}
+use Rattle.usb_scan.specs.Parts.{check_child}
+use Rattle.usb_scan.proofs.check_child.Goals as goal
+
+pub returns-in_default : goal.returns-in_default
+unfolding check_child
+returns-in_default c n h = next-ended _ _ (c.hub_check_connection-checked.ensures n h) (not-ok _ c.in_default.not-Ok)
+
+pub returns-then-wide-child : goal.returns-then-wide-child
+unfolding check_child throw
+returns-then-wide-child c n h = let check = as-ok c.in-Ok.is (c.hub_check_connection-checked.ensures n h) in
+    next check (got-as _ _ _ ((c.wide.ensures.0 ∙ c.port_child.ensures)) (done-if (ap not (ne_eqb _ _ c.if-wide-child.true)) (record { is = refl; fit = check.fit })))
+
+pub returns : goal.returns
+unfolding check_child
+returns c n h = let ok = c.in-Ok.is in
+    let check = as-ok ok (c.hub_check_connection-checked.ensures n h) in
+    rw ok (next check (got-as _ _ _ ((c.wide.ensures.0 ∙ c.port_child.ensures)) (done-unless _ (ap not (eq-eqb _ _ c.if-wide-child.false)) check.fit)))
