@@ -26,7 +26,7 @@ use Rattle.usb_model.specs.Usbd.{usb_read_device_descriptor, usb_configure}
 use Rattle.usb_model.specs.Hub.{is_ok, hub_read_descriptor, hub_check_connection, hub_attach, scan_port, hub_check_for_change}
 use Rattle.usb_model.specs.Attach.{usb_attach_device, attach_below, usb_attach_root_hub}
 use Rattle.usb_model.specs.Kept.{Bytes}
-use Rattle.usb_model.specs.History.{Event, count}
+use Rattle.usb_model.specs.History.{Event}
 use Rattle.usb_model.proofs.Bytes.{bytes-blank}
 use Rattle.usb_model.proofs.Stores.{plain-low, Follows, most-follows}
 use Rattle.usb_model.proofs.Functions.{small, middle}

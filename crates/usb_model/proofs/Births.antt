@@ -15,7 +15,7 @@ use Rattle.usb_device.proofs.NewDevice.{new-bytes}
 use Rattle.usb_device.proofs.Free.{new-elsewhere, first-unused, new-byte}
 use Rattle.usb_sound.specs.Sound.{IsUsed}
 use Rattle.usb_store.proofs.Cells.{byte-beside}
-use Rattle.usb_model.specs.Programs.{Ran, on, ◌>>=◌, ◌>>◌}
+use Rattle.usb_model.specs.Programs.{Ran, on, ◌>>=◌}
 use Rattle.usb_model.specs.World.{put_bytes, World, M, put}
 use Rattle.usb_model.specs.Usbd.{usb_allocate_device}
 use Rattle.usb_model.specs.History.{Event, sets_address, configures, count}

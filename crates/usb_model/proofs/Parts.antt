@@ -6,7 +6,6 @@ use mathlib.Core.List.{List}
 use Prim.Native.Nat.{ℕ, ◌+◌, ◌*◌, ◌≤◌, ◌<◌, ◌^◌}
 use native.Mathlib.Omega.{arith}
 use lib.Dec.{eqb}
-use lib.ListN.{length}
 use Rattle.usb_types.specs.Requests.{get_status_code, clear_feature_code, set_feature_code, get_descriptor_code, to_device, to_hub, to_port, direction_of, device_request}
 use Rattle.usb_store.specs.Layout.{speed_field, hub_field, device_descriptor_field, max_packet_size0_field, hub_status_field, port_status_field, max_children_field, power_good_delay_field}
 use Rattle.usb_store.specs.Access.{byte_at}

@@ -2,7 +2,7 @@
 use Rattle.std.specs.Prelude.{◌≡◌, Bool, false, ℕ}
 use Rattle.usb_types.specs.declared.types.Answer.{Answer}
 use Rattle.usb_model.specs.declared.Progress.{Progress}
-use Rattle.usb_model.specs.Programs.{◌>>=◌, ◌>>◌, ignore}
+use Rattle.usb_model.specs.Programs.{◌>>◌, ignore}
 use Rattle.usb_model.specs.World.{M, micro_delay}
 use Rattle.usb_model.specs.Features.{port_reset, c_port_reset}
 use Rattle.usb_model.specs.Hub.{set_port_feature, clear_port_feature, hub_port_get_status}

@@ -6,7 +6,7 @@ use lib.ListN.{length}
 use Rattle.usb_types.specs.declared.types.ErrorCode.TheVariants.{Device}
 use Rattle.usb_types.specs.declared.types.Answer.{Answer}
 use Rattle.usb_types.specs.declared.types.Answer.TheVariants.{Ok, Error}
-use Rattle.usb_model.specs.Programs.{◌>>=◌, ◌>>◌, skip}
+use Rattle.usb_model.specs.Programs.{◌>>=◌, skip}
 use Rattle.usb_model.specs.World.{World, M}
 use Rattle.usb_model.specs.Features.{port_enable, port_reset, bit}
 use Rattle.usb_model.specs.Hub.{set_port_feature, port_status, await_enabled, reset_tries}

@@ -1,11 +1,8 @@
 -- `lidrumak::lidrumak_port_check` meets its contract. Assumes nothing.
-use borrow.Author.Rules.{rules}
-use mathlib.Core.Path.{◌≡◌, refl}
+use mathlib.Core.Path.{refl}
 use Rattle.usb_device.proofs.Free.{free-most}
-use Rattle.usb_model.specs.Entry.{Lent, no_port, start, port_check}
-use Rattle.usb_model.specs.Kept.{LentBytes}
-use Rattle.usb_model.proofs.Accepted.{port-inside, HubAccepted, hub-accepted}
-use Rattle.usb_transfer.specs.Runs.{here}
+use Rattle.usb_model.specs.Entry.{port_check}
+use Rattle.usb_model.proofs.Accepted.{port-inside, hub-accepted}
 use Rattle.usb_entry.specs.Replies.{lent}
 use Rattle.lidrumak.proofs.Entries.{refused-call, accepted-call, accepts, bytes_of, first-world, on-bus}
 use Rattle.lidrumak.proofs.lidrumak_port_check.Goals as goal
@@ -24,13 +21,15 @@ copy_store-requires c =
 pub hub_check_connection-requires : goal.hub_check_connection-requires
 hub_check_connection-requires c =
     let judged = c.port_verdict-verdict.ensures c.args.new.now c.args.outcomes.now c.args.log.now refl in
-    let p = (hub-accepted _ _ _ (accepts _ judged c.in_default.is)) in
-    (on-bus _ (record {
-  old = bytes_of c.shared_slice_known-1.given;
-  new = bytes_of c.slice_known-1.given;
-  outcomes = bytes_of c.shared_slice_known-2-1.given;
-  log = bytes_of c.slice_known-2-1.given;
-}) p.is-sound (first-world (lent c.args.old.now c.args.new.now c.args.outcomes.now c.args.log.now) c.copy_store.ensures c.begin.ensures) _ p.inside p.first, port-inside _ p.good)
+    let p = (hub-accepted _ _ _ (accepts _ judged c.in_default.is)) in (
+      on-bus _ (record {
+        old = bytes_of c.shared_slice_known-1.given;
+        new = bytes_of c.slice_known-1.given;
+        outcomes = bytes_of c.shared_slice_known-2-1.given;
+        log = bytes_of c.slice_known-2-1.given;
+      }) p.is-sound (first-world (lent c.args.old.now c.args.new.now c.args.outcomes.now c.args.log.now) c.copy_store.ensures c.begin.ensures) _ p.inside p.first,
+      port-inside _ p.good,
+    )
 
 pub returns : goal.returns
 unfolding port_check

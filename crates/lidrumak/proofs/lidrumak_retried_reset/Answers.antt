@@ -1,10 +1,7 @@
 -- `lidrumak::lidrumak_retried_reset` meets its contract. Assumes nothing.
-use borrow.Author.Rules.{rules}
-use mathlib.Core.Path.{◌≡◌, refl}
-use Rattle.usb_model.specs.Entry.{Lent, no_port, start, retried_reset}
-use Rattle.usb_model.specs.Kept.{LentBytes}
-use Rattle.usb_model.proofs.Accepted.{port-inside, HubAccepted, hub-accepted}
-use Rattle.usb_transfer.specs.Runs.{here}
+use mathlib.Core.Path.{refl}
+use Rattle.usb_model.specs.Entry.{retried_reset}
+use Rattle.usb_model.proofs.Accepted.{port-inside, hub-accepted}
 use Rattle.usb_entry.specs.Replies.{lent}
 use Rattle.lidrumak.proofs.Entries.{refused-call, accepted-call, accepts, bytes_of, first-world, started}
 use Rattle.lidrumak.proofs.lidrumak_retried_reset.Goals as goal
@@ -25,11 +22,11 @@ hub_port_reset-requires c =
     let judged = c.port_verdict-verdict.ensures c.args.new.now c.args.outcomes.now c.args.log.now refl in
     let p = (hub-accepted _ _ _ (accepts _ judged c.in_default.is)) in
     let s = started _ (record {
-  old = bytes_of c.shared_slice_known-1.given;
-  new = bytes_of c.slice_known-1.given;
-  outcomes = bytes_of c.shared_slice_known-2-1.given;
-  log = bytes_of c.slice_known-2-1.given;
-}) p.is-sound (first-world (lent c.args.old.now c.args.new.now c.args.outcomes.now c.args.log.now) c.copy_store.ensures c.begin.ensures) in
+      old = bytes_of c.shared_slice_known-1.given;
+      new = bytes_of c.slice_known-1.given;
+      outcomes = bytes_of c.shared_slice_known-2-1.given;
+      log = bytes_of c.slice_known-2-1.given;
+    }) p.is-sound (first-world (lent c.args.old.now c.args.new.now c.args.outcomes.now c.args.log.now) c.copy_store.ensures c.begin.ensures) in
     (s.fit, p.inside, port-inside _ p.good)
 
 pub returns : goal.returns

@@ -1,11 +1,8 @@
 -- `lidrumak::lidrumak_root_attach` meets its contract. Assumes nothing.
-use borrow.Author.Rules.{rules}
 use native.Mathlib.Omega.{arith}
-use mathlib.Core.Path.{◌≡◌, refl}
-use Rattle.usb_model.specs.Entry.{Lent, start, root_attach}
-use Rattle.usb_model.specs.Kept.{LentBytes}
-use Rattle.usb_model.proofs.Accepted.{RootAccepted, root-accepted}
-use Rattle.usb_transfer.specs.Runs.{here}
+use mathlib.Core.Path.{refl}
+use Rattle.usb_model.specs.Entry.{root_attach}
+use Rattle.usb_model.proofs.Accepted.{root-accepted}
 use Rattle.usb_entry.specs.Replies.{lent}
 use Rattle.lidrumak.proofs.Entries.{refused-call, accepted-call, accepts, bytes_of, first-world, started}
 use Rattle.lidrumak.proofs.lidrumak_root_attach.Goals as goal
@@ -30,11 +27,11 @@ pub usb_attach_root_hub-requires : goal.usb_attach_root_hub-requires
 usb_attach_root_hub-requires c =
     let judged = c.root_verdict-verdict.ensures c.args.new.now c.args.outcomes.now c.args.log.now refl in
     let s = started _ (record {
-  old = bytes_of c.shared_slice_known-1.given;
-  new = bytes_of c.slice_known-1.given;
-  outcomes = bytes_of c.shared_slice_known-2-1.given;
-  log = bytes_of c.slice_known-2-1.given;
-}) (root-accepted _ _ (accepts _ judged c.in_default.is)).is-sound (first-world (lent c.args.old.now c.args.new.now c.args.outcomes.now c.args.log.now) c.copy_store.ensures c.begin.ensures) in
+      old = bytes_of c.shared_slice_known-1.given;
+      new = bytes_of c.slice_known-1.given;
+      outcomes = bytes_of c.shared_slice_known-2-1.given;
+      log = bytes_of c.slice_known-2-1.given;
+    }) (root-accepted _ _ (accepts _ judged c.in_default.is)).is-sound (first-world (lent c.args.old.now c.args.new.now c.args.outcomes.now c.args.log.now) c.copy_store.ensures c.begin.ensures) in
     (s.fit, s.good)
 
 pub returns : goal.returns

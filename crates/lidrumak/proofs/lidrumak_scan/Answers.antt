@@ -1,13 +1,9 @@
 -- `lidrumak::lidrumak_scan` meets its contract. Assumes nothing.
-use borrow.Author.Rules.{rules}
 use native.Mathlib.Omega.{arith}
-use mathlib.Core.Path.{◌≡◌, refl}
-use mathlib.Core.Bool.{false}
+use mathlib.Core.Path.{refl}
 use Rattle.usb_device.proofs.Free.{free-most}
-use Rattle.usb_model.specs.Entry.{Lent, start, scan}
-use Rattle.usb_model.specs.Kept.{LentBytes}
-use Rattle.usb_model.proofs.Accepted.{HubAccepted, hub-accepted}
-use Rattle.usb_transfer.specs.Runs.{here}
+use Rattle.usb_model.specs.Entry.{scan}
+use Rattle.usb_model.proofs.Accepted.{hub-accepted}
 use Rattle.usb_entry.specs.Replies.{lent}
 use Rattle.lidrumak.proofs.Entries.{refused-call, accepted-call, accepts, bytes_of, first-world, on-bus}
 use Rattle.lidrumak.proofs.lidrumak_scan.Goals as goal
@@ -28,11 +24,11 @@ hub_check_for_change-requires c =
     let judged = c.hub_verdict-verdict.ensures c.args.new.now c.args.outcomes.now c.args.log.now refl in
     let p = (hub-accepted _ _ _ (accepts _ judged c.in_default.is)) in
     on-bus _ (record {
-  old = bytes_of c.shared_slice_known-1.given;
-  new = bytes_of c.slice_known-1.given;
-  outcomes = bytes_of c.shared_slice_known-2-1.given;
-  log = bytes_of c.slice_known-2-1.given;
-}) p.is-sound (first-world (lent c.args.old.now c.args.new.now c.args.outcomes.now c.args.log.now) c.copy_store.ensures c.begin.ensures) _ p.inside p.first
+      old = bytes_of c.shared_slice_known-1.given;
+      new = bytes_of c.slice_known-1.given;
+      outcomes = bytes_of c.shared_slice_known-2-1.given;
+      log = bytes_of c.slice_known-2-1.given;
+    }) p.is-sound (first-world (lent c.args.old.now c.args.new.now c.args.outcomes.now c.args.log.now) c.copy_store.ensures c.begin.ensures) _ p.inside p.first
 
 pub returns : goal.returns
 unfolding scan

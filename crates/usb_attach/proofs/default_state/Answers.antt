@@ -1,5 +1,4 @@
 -- `usb_attach::default_state` meets its contract. Assumes nothing.
-use borrow.Author.Rules.{rules}
 use Rattle.usb_transfer.proofs.Steps.{not-ok, next, next-ended, put_then, put_last}
 use Rattle.usb_attach.specs.Parts.{default_state}
 use Rattle.usb_attach.proofs.default_state.Goals as goal

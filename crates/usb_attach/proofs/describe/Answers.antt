@@ -1,5 +1,4 @@
 -- `usb_attach::describe` meets its contract. Assumes nothing.
-use borrow.Author.Rules.{rules}
 use Rattle.usb_transfer.proofs.Steps.{not-ok, next, next-ended}
 use Rattle.usb_attach.specs.Parts.{described}
 use Rattle.usb_attach.proofs.describe.Goals as goal

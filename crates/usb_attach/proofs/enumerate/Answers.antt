@@ -1,5 +1,4 @@
 -- `usb_attach::enumerate` meets its contract. Assumes nothing.
-use borrow.Author.Rules.{rules}
 use Rattle.usb_transfer.proofs.Steps.{not-ok, next, next-ended, got-as}
 use Rattle.usb_attach.specs.Parts.{enumerated}
 use Rattle.usb_attach.proofs.enumerate.Goals as goal

@@ -1,5 +1,4 @@
 -- `usb_attach::set_number` meets its contract. Assumes nothing.
-use borrow.Author.Rules.{rules}
 use Rattle.usb_transfer.proofs.Steps.{NotOk, bound, bound-ended, put_then, put-bytes-fit, succeeded, not-stop, attempted, attempt-stopped}
 use Rattle.usb_attach.specs.Parts.{addressed}
 use Rattle.usb_attach.proofs.set_number.Goals as goal

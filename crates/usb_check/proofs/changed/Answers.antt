@@ -1,5 +1,4 @@
 -- `usb_check::changed` meets its contract. Assumes nothing.
-use borrow.Author.Rules.{rules}
 use borrow.Author.Tests.{ne_eqb}
 use mathlib.Core.Path.{sym, ◌∙◌}
 use Rattle.usb_model.specs.Features.{bit}

@@ -1,5 +1,4 @@
 -- `usb_check::clear_changes` meets its contract. Assumes nothing.
-use borrow.Author.Rules.{rules}
 use Rattle.usb_model.specs.Features.{bit}
 use Rattle.usb_transfer.proofs.Steps.{not-ok, as-ok, next, next-ended}
 use Rattle.usb_hub.proofs.Parts.{ignores-as}

@@ -1,5 +1,4 @@
 -- `usb_check::clear_if` meets its contract. Assumes nothing.
-use borrow.Author.Rules.{rules}
 use Rattle.usb_transfer.proofs.Steps.{done-if, done-unless}
 use Rattle.usb_check.specs.Parts.{clear_if}
 use Rattle.usb_check.proofs.clear_if.Goals as goal

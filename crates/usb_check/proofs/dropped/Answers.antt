@@ -1,6 +1,4 @@
 -- `usb_check::dropped` meets its contract. Assumes nothing.
-use borrow.Author.Rules.{rules}
-use borrow.Author.Tests.{not-true, not-false}
 use mathlib.Core.Path.{sym, ◌∙◌}
 use Rattle.usb_model.specs.Features.{bit}
 use Rattle.usb_check.specs.Parts.{is_dropped}

@@ -1,5 +1,4 @@
 -- `usb_check::end_check` meets its contract. Assumes nothing.
-use borrow.Author.Rules.{rules}
 use Rattle.usb_model.specs.Features.{bit}
 use Rattle.usb_transfer.proofs.Steps.{not-ok, next, next-ended}
 use Rattle.usb_check.specs.Parts.{end_check}

@@ -1,5 +1,4 @@
 -- `usb_check::over_current` meets its contract. Assumes nothing.
-use borrow.Author.Rules.{rules}
 use mathlib.Core.Path.{sym, ◌∙◌}
 use Rattle.usb_model.specs.Features.{bit}
 use Rattle.usb_transfer.proofs.Steps.{not-ok, as-ok, next, next-ended, done-if, done-unless}

@@ -1,8 +1,7 @@
 -- `usb_check::start_check` meets its contract. Assumes nothing.
 -- ---- the place of each call
 -- ---- the answers
-use borrow.Author.Rules.{rules}
-use mathlib.Core.Path.{refl, ◌∙◌}
+use mathlib.Core.Path.{refl}
 use Rattle.usb_device.proofs.HubRecord.{child-at}
 use Rattle.usb_model.specs.Hub.{port_status}
 use Rattle.usb_transfer.proofs.Steps.{not-ok, as-ok, otherwise, next, next-ended, got, got_number, got-number-as}

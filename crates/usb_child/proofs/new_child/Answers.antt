@@ -1,7 +1,6 @@
 -- `usb_child::new_child` meets its contract. Assumes nothing.
 -- ---- the place of each call
 -- ---- the answers
-use borrow.Author.Rules.{rules}
 use Prim.Native.Nat.{◌<◌}
 use Rattle.usb_store.specs.Layout.{place_count}
 use mathlib.Core.Path.{refl}

@@ -1,5 +1,4 @@
 -- `usb_child::no_new_device` meets its contract. Assumes nothing.
-use borrow.Author.Rules.{rules}
 use mathlib.Core.Path.{sym, ◌∙◌}
 use Rattle.usb_model.specs.Features.{bit}
 use Rattle.usb_child.proofs.Births.{has-child, connected, disconnected}

@@ -1,5 +1,4 @@
 -- `usb_child::place_child` meets its contract. Assumes nothing.
-use borrow.Author.Rules.{rules}
 use Rattle.usb_transfer.proofs.Steps.{not-ok, as-ok, next, next-ended, put_then}
 use Rattle.usb_child.proofs.Births.{port-put}
 use Rattle.usb_child.specs.Parts.{place_child}

@@ -1,8 +1,6 @@
 -- `usb_child::reset_changed` meets its contract. Assumes nothing.
 -- ---- the place of each call, and the place where its answer is known to be Ok
 -- ---- the answers
-use borrow.Author.Rules.{rules}
-use mathlib.Core.Path.{◌∙◌}
 use Rattle.usb_model.specs.Hub.{port_status}
 use Rattle.usb_transfer.proofs.Steps.{not-ok, as-ok, next, next-ended, got, got_number, unless, thrown}
 use Rattle.usb_transfer.proofs.Logged.{logged, fit-after}

@@ -1,5 +1,4 @@
 -- `usb_child::set_port` meets its contract. Assumes nothing.
-use borrow.Author.Rules.{rules}
 use Rattle.usb_child.proofs.Births.{port-set}
 use Rattle.usb_child.proofs.set_port.Goals as goal
 

@@ -1,8 +1,6 @@
 -- `usb_child::start_change` meets its contract. Assumes nothing.
 -- ---- the place of each call, and the place where its answer is known to be Ok
 -- ---- the answers
-use borrow.Author.Rules.{rules}
-use mathlib.Core.Path.{◌∙◌}
 use Rattle.usb_transfer.proofs.Steps.{not-ok, as-ok, next, next-ended}
 use Rattle.usb_transfer.proofs.Logged.{logged}
 use Rattle.usb_child.specs.Parts.{start_change}

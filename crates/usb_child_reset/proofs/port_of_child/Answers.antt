@@ -1,9 +1,5 @@
 -- `usb_child_reset::port_of_child` meets its contract. Assumes nothing.
-use borrow.Author.Rules.{rules}
-use mathlib.Core.Path.{◌≡◌, ◌∙◌}
-use Prim.Native.Nat.{ℕ, ◌+◌, ◌<◌}
-use Rattle.usb_store.specs.Layout.{port_number_field, parent_field, max_children_field}
-use Rattle.usb_store.specs.Access.{byte_at}
+use mathlib.Core.Path.{◌∙◌}
 use Rattle.usb_child_reset.proofs.Children.{other-parent, no-port, other-child, stands-there}
 use Rattle.usb_child_reset.proofs.port_of_child.Goals as goal
 

@@ -1,5 +1,4 @@
 -- `usb_configure::configure_rest` meets its contract. Assumes nothing.
-use borrow.Author.Rules.{rules}
 use Rattle.usb_transfer.proofs.Steps.{not-ok, bound, bound-ended}
 use Rattle.usb_configure.proofs.configure_rest.Goals as goal
 

@@ -1,5 +1,4 @@
 -- `usb_configure::configure_with` meets its contract. Assumes nothing.
-use borrow.Author.Rules.{rules}
 use Rattle.usb_transfer.proofs.Steps.{not-ok, next, next-ended, got-as}
 use Rattle.usb_configure.specs.Parts.{configure_with}
 use Rattle.usb_configure.proofs.configure_with.Goals as goal

@@ -1,5 +1,4 @@
 -- `usb_configure::read_configuration` meets its contract. Assumes nothing.
-use borrow.Author.Rules.{rules}
 use Rattle.usb_configure.specs.Parts.{read_head}
 use Rattle.usb_configure.proofs.read_configuration.Goals as goal
 

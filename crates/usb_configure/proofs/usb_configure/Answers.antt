@@ -1,7 +1,6 @@
 -- `usb_configure::usb_configure` meets its contract. Assumes nothing.
 use mathlib.Core.Path.{ap}
 use mathlib.Core.Bool.{not}
-use borrow.Author.Rules.{rules}
 use borrow.Author.Tests.{eq-eqb, ne_eqb}
 use Rattle.usb_transfer.proofs.Steps.{not-ok, next, next-ended, got-as, got-number-as, unless, thrown}
 use Rattle.usb_configure.proofs.Ways.{in_parts, in-parts}

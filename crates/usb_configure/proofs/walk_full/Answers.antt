@@ -1,5 +1,4 @@
 -- `usb_configure::walk_full` meets its contract. Assumes nothing.
-use borrow.Author.Rules.{rules}
 use Rattle.usb_configure.proofs.Ways.{walked-part}
 use Rattle.usb_configure.proofs.walk_full.Goals as goal
 

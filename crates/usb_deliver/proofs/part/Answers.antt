@@ -1,7 +1,6 @@
 -- `usb_deliver::part` meets its contract. Assumes nothing.
 use Prim.Native.Nat.{◌+◌, ◌≤◌}
 use native.Mathlib.Omega.{arith}
-use borrow.Author.Rules.{rules}
 use lib.ListN.{length}
 use Rattle.usb_transfer.proofs.Steps.{not-ok}
 use Rattle.usb_deliver.proofs.Deliveries.{part-ended}

@@ -1,5 +1,4 @@
 -- `usb_enumerate::read_device_descriptor` meets its contract. Assumes nothing.
-use borrow.Author.Rules.{rules}
 use Rattle.usb_model.specs.Usbd.{read_device_descriptor}
 use Rattle.usb_enumerate.proofs.Ways.{counted}
 use Rattle.usb_enumerate.proofs.read_device_descriptor.Goals as goal

@@ -1,8 +1,7 @@
 -- `usb_enumerate::usb_read_device_descriptor` meets its contract. Assumes nothing.
 -- ---- the places, from the test of the length to the first read and to the packet size
-use mathlib.Core.Path.{ap, ◌∙◌}
+use mathlib.Core.Path.{ap}
 use mathlib.Core.Bool.{not}
-use borrow.Author.Rules.{rules}
 use borrow.Author.Tests.{eq-eqb, ne_eqb}
 use Rattle.usb_model.specs.Usbd.{usb_read_device_descriptor}
 use Rattle.usb_transfer.proofs.Steps.{not-ok, bound, bound-ended, got-as, put_then, taken-if, taken-else, done-unless, done-if, dropped}

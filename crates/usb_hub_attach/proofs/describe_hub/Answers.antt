@@ -1,5 +1,4 @@
 -- `usb_hub_attach::describe_hub` meets its contract. Assumes nothing.
-use borrow.Author.Rules.{rules}
 use Rattle.usb_transfer.proofs.Steps.{not-ok, next, next-ended, got-as, put_then, put_last}
 use Rattle.usb_hub_attach.specs.Parts.{hub_described}
 use Rattle.usb_hub_attach.proofs.describe_hub.Goals as goal

@@ -1,5 +1,4 @@
 -- `usb_hub_attach::hub_endpoint` meets its contract. Assumes nothing.
-use borrow.Author.Rules.{rules}
 use borrow.Author.Tests.{eq-eqb, ne_eqb, lt-ltb, le-ltb}
 use Rattle.usb_hub_attach.specs.Parts.{hub_endpoint}
 use Rattle.usb_hub_attach.proofs.hub_endpoint.Goals as goal

@@ -1,5 +1,4 @@
 -- `usb_hub_attach::power_hub` meets its contract. Assumes nothing.
-use borrow.Author.Rules.{rules}
 use Rattle.usb_transfer.proofs.Steps.{not-ok, next, next-ended}
 use Rattle.usb_hub_attach.specs.Parts.{hub_powered}
 use Rattle.usb_hub_attach.proofs.power_hub.Goals as goal

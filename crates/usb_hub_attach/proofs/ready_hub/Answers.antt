@@ -1,6 +1,5 @@
 -- `usb_hub_attach::ready_hub` meets its contract. Assumes nothing.
 use mathlib.Core.Path.{sym, ◌∙◌}
-use borrow.Author.Rules.{rules}
 use Rattle.usb_transfer.proofs.Steps.{not-ok, next, next-ended}
 use Rattle.usb_hub_attach.proofs.Hubs.{fits, unfit}
 use Rattle.usb_hub_attach.proofs.ready_hub.Goals as goal

@@ -1,7 +1,6 @@
 -- `usb_hub_descriptor::after_header` meets its contract. Assumes nothing.
 use Prim.Native.Nat.{◌≤◌}
 use native.Mathlib.Omega.{arith}
-use borrow.Author.Rules.{rules}
 use lib.ListN.{length}
 use Rattle.usb_transfer.proofs.Steps.{not-ok, bound, bound-ended, got}
 use Rattle.usb_hub_descriptor.specs.Parts.{after_header}

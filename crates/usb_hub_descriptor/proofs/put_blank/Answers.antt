@@ -1,5 +1,4 @@
 -- `usb_hub_descriptor::put_blank` meets its contract. Assumes nothing.
-use borrow.Author.Rules.{rules}
 use Rattle.usb_hub_descriptor.proofs.Blanks.{blank-put, blank-kept}
 use Rattle.usb_hub_descriptor.proofs.put_blank.Goals as goal
 

@@ -1,5 +1,4 @@
 -- `usb_hub_descriptor::read_rest` meets its contract. Assumes nothing.
-use borrow.Author.Rules.{rules}
 use Rattle.usb_transfer.proofs.Steps.{dropped}
 use Rattle.usb_hub_descriptor.specs.Parts.{read_rest}
 use Rattle.usb_hub_descriptor.proofs.read_rest.Goals as goal

@@ -1,5 +1,4 @@
 -- `usb_message::control` meets its contract. Assumes nothing.
-use borrow.Author.Rules.{rules}
 use Rattle.usb_message.proofs.Messages.{controlled}
 use Rattle.usb_message.proofs.control.Goals as goal
 

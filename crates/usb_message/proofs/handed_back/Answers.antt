@@ -1,5 +1,4 @@
 -- `usb_message::handed_back` meets its contract. Assumes nothing.
-use borrow.Author.Rules.{rules}
 use mathlib.Core.Path.{refl}
 use Rattle.usb_transfer.proofs.Steps.{not-ok}
 use Rattle.usb_message.proofs.Messages.{handed-none}

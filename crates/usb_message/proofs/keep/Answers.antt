@@ -8,10 +8,10 @@ slice_bounds-set_bytes-end c = prefix-long _ _ _ c.lesser-n.ensures
 
 pub set_bytes-requires : goal.set_bytes-requires
 set_bytes-requires c = record {
-      whole = search rules;
-      inside = search rules;
-      room = prefix-room _ _ _ c.lesser-n.ensures _ (search rules);
-    }
+  whole = search rules;
+  inside = search rules;
+  room = prefix-room _ _ _ c.lesser-n.ensures _ (search rules);
+}
 
 pub returns : goal.returns
 returns c = kept-is _ _ _ _ _ _ _ _ _ _ c.lesser-n.ensures c.error_word.ensures

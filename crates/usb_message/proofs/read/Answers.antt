@@ -1,5 +1,4 @@
 -- `usb_message::read` meets its contract. Assumes nothing.
-use borrow.Author.Rules.{rules}
 use Rattle.usb_transfer.proofs.Steps.{not-ok}
 use Rattle.usb_message.proofs.Messages.{none-enough, read-ended, read_short, read-enough}
 use Rattle.usb_message.proofs.read.Goals as goal

@@ -1,5 +1,4 @@
 -- `usb_message::send_request` meets its contract. Assumes nothing.
-use borrow.Author.Rules.{rules}
 use Rattle.usb_message.proofs.send_request.Goals as goal
 
 pub returns : goal.returns

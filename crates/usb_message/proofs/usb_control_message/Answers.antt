@@ -1,5 +1,4 @@
 -- `usb_message::usb_control_message` meets its contract. Assumes nothing.
-use borrow.Author.Rules.{rules}
 use Rattle.usb_transfer.proofs.Steps.{not-ok}
 use Rattle.usb_transfer.proofs.Logged.{fit-after}
 use Rattle.usb_message.proofs.Messages.{message-unsent, message-sent}

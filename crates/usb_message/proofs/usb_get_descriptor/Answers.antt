@@ -1,5 +1,4 @@
 -- `usb_message::usb_get_descriptor` meets its contract. Assumes nothing.
-use borrow.Author.Rules.{rules}
 use Rattle.usb_model.specs.Transfer.{usb_get_descriptor}
 use Rattle.usb_message.proofs.usb_get_descriptor.Goals as goal
 

@@ -1,11 +1,8 @@
 -- `usb_port::await_reset` meets its contract. The loop's invariant: the reads that are left are the whole. Assumes nothing.
-use borrow.Author.Rules.{rules}
 use mathlib.Core.Path.{refl, sym, ◌∙◌}
 use native.Mathlib.Omega.{arith}
 use Rattle.usb_model.specs.Features.{bit}
-use Rattle.usb_model.specs.Hub.{await_reset}
-use Rattle.usb_transfer.specs.Runs.{here}
-use Rattle.usb_transfer.proofs.Steps.{not-ok, as-ok, otherwise, Going, going, ends_with}
+use Rattle.usb_transfer.proofs.Steps.{not-ok, as-ok, otherwise, going, ends_with}
 use Rattle.usb_port.proofs.Awaits.{reset-ended, reset-seen, reset-goes, reset-none}
 use Rattle.usb_port.proofs.await_reset.Goals as goal
 

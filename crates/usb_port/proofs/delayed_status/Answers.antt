@@ -1,5 +1,4 @@
 -- `usb_port::delayed_status` meets its contract. Assumes nothing.
-use borrow.Author.Rules.{rules}
 use Rattle.usb_transfer.proofs.Steps.{not-ok, as-ok, next, next-ended}
 use Rattle.usb_transfer.proofs.Logged.{logged, fit-after}
 use Rattle.usb_port.specs.Parts.{delayed_status}

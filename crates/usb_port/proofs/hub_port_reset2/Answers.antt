@@ -2,11 +2,9 @@
 -- ---- the place of each call, and the place where its answer is known to be Ok
 -- ---- the answers
 -- the lengths of store and log, once the change is cleared
-use borrow.Author.Rules.{rules}
-use mathlib.Core.Path.{◌≡◌, ap, ◌∙◌}
+use mathlib.Core.Path.{ap}
 use mathlib.Core.Bool.{not}
 use native.Mathlib.Omega.{arith}
-use lib.ListN.{length}
 use Rattle.usb_transfer.proofs.Steps.{not-ok, as-ok, bound, bound-ended, next, next-ended, grouped, unless, thrown}
 use Rattle.usb_transfer.proofs.Logged.{logged}
 use Rattle.usb_model.specs.Hub.{hub_port_reset2}

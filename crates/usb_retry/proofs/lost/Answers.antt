@@ -1,5 +1,4 @@
 -- `usb_retry::lost` meets its contract. Assumes nothing.
-use borrow.Author.Rules.{rules}
 use mathlib.Core.Path.{sym, ◌∙◌}
 use Rattle.usb_model.specs.Features.{bit}
 use Rattle.usb_retry.specs.Parts.{is_lost}

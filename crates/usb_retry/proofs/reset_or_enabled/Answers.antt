@@ -1,5 +1,4 @@
 -- `usb_retry::reset_or_enabled` meets its contract. Assumes nothing.
-use borrow.Author.Rules.{rules}
 use mathlib.Core.Path.{sym, ◌∙◌}
 use Rattle.usb_model.specs.Features.{bit}
 use Rattle.usb_retry.specs.Parts.{reset_or_enabled}

@@ -1,10 +1,7 @@
 -- `usb_retry::reset_tries` meets its contract. The loop's invariant: the tries that are left are the whole. Assumes nothing.
-use borrow.Author.Rules.{rules}
-use native.Mathlib.Omega.{arith}
 use Rattle.usb_model.specs.Hub.{reset_tries}
 use Rattle.usb_transfer.specs.Runs.{here}
-use Rattle.usb_transfer.proofs.Steps.{not-ok, as-ok, Going, going, ends_with}
-use Rattle.usb_retry.proofs.Tries.{tries-ended, tries-done, tries-goes, tries-none}
+use Rattle.usb_transfer.proofs.Steps.{Going}
 use Rattle.usb_retry.proofs.reset_tries.Given as goal
 
 abbrev pub invariant-loop-left : goal.invariant-loop-left

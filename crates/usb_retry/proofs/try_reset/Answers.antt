@@ -1,7 +1,6 @@
 -- `usb_retry::try_reset` meets its contract. Assumes nothing.
 -- ---- the place of each call, and the place where its answer is known to be Ok
 -- ---- the answers
-use borrow.Author.Rules.{rules}
 use mathlib.Core.Path.{refl, sym, ◌∙◌}
 use Rattle.usb_model.specs.Features.{bit}
 use Rattle.usb_transfer.proofs.Steps.{not-ok, as-ok, otherwise, bound-ended, next, next-ended}

@@ -1,5 +1,5 @@
 -- Scan, and the scan of a port, which call each other: each answer follows its definition line by line. Assumes nothing.
-use Rattle.std.proofs.Common.{◌∙◌, ◌<◌, arith, le_refl, refl, sym}
+use Rattle.std.proofs.Common.{◌∙◌, ◌<◌, arith, le_refl, sym}
 use Rattle.usb_transfer.proofs.Steps.{as-ok, not-ok, got-as, ends_with, each_last, each-ended, each_goes}
 use Rattle.usb_driver.proofs.Reaches.{checked-after}
 use Rattle.usb_scan.proofs.Scans.{at_places, scanned-after, child-bus, passes-failed, passes_none, passes-no-hub, goes-below}

@@ -1,11 +1,8 @@
 -- `usb_scan::check_child` meets its contract. Assumes nothing.
 -- ---- once the check answered Ok
-use borrow.Author.Rules.{rules}
-use mathlib.Core.Path.{◌≡◌, refl, ap, ◌∙◌}
+use mathlib.Core.Path.{refl, ap, ◌∙◌}
 use mathlib.Core.Bool.{not}
 use borrow.Author.Tests.{eq-eqb, ne_eqb}
-use Rattle.usb_store.specs.Layout.{child_field}
-use Rattle.usb_store.specs.Access.{byte_at}
 use Rattle.usb_model.specs.Programs.{throw}
 use Rattle.usb_transfer.proofs.Steps.{as-ok, not-ok, next, next-ended, got-as, done-if, done-unless}
 use Rattle.usb_scan.specs.Parts.{check_child}

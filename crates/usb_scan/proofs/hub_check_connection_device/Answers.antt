@@ -1,6 +1,5 @@
 -- `usb_scan::hub_check_connection_device` meets its contract. Assumes nothing.
 -- the function's entry, from the call of port_of_child
-use borrow.Author.Rules.{rules}
 use Rattle.usb_model.specs.Hub.{hub_check_connection_device}
 use Rattle.usb_transfer.proofs.Steps.{NotOk, bound, bound-ended}
 use Rattle.usb_scan.specs.Parts.{check_child}

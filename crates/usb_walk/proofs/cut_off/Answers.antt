@@ -1,5 +1,4 @@
 -- `usb_walk::cut_off` meets its contract. Assumes nothing.
-use borrow.Author.Rules.{rules}
 use borrow.Author.Tests.{eq-eqb, ne_eqb}
 use Rattle.usb_walk.specs.Steps.{cut_off}
 use Rattle.usb_walk.proofs.cut_off.Goals as goal

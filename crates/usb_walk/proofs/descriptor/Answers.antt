@@ -1,5 +1,4 @@
 -- `usb_walk::descriptor` meets its contract. Assumes nothing.
-use borrow.Author.Rules.{rules}
 use mathlib.Core.Path.{sym, ◌∙◌}
 use Rattle.usb_walk.proofs.Descriptors.{no-type, by_kind, other-ends, other_goes}
 use Rattle.usb_walk.proofs.descriptor.Goals as goal

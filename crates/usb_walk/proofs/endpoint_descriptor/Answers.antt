@@ -1,10 +1,8 @@
 -- `usb_walk::endpoint_descriptor` meets its contract. Assumes nothing.
 use borrow.Author.Rules.{rules}
-use mathlib.Core.Path.{◌≡◌, sym, ◌∙◌}
-use mathlib.Core.Bool.{false}
+use mathlib.Core.Path.{sym, ◌∙◌}
 use native.Mathlib.Omega.{arith}
 use Rattle.usb_model.specs.Walk.{descriptor_of}
-use Rattle.usb_walk.specs.Steps.{cut_off}
 use Rattle.usb_walk.proofs.Descriptors.{cut_short, whole_long, endpoint-skipped, no-interface, count-reached, seventeenth, endpoint-stored}
 use Rattle.usb_walk.proofs.endpoint_descriptor.Goals as goal
 

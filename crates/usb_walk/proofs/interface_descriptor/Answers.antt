@@ -1,10 +1,8 @@
 -- `usb_walk::interface_descriptor` meets its contract. Assumes nothing.
 use borrow.Author.Rules.{rules}
-use mathlib.Core.Path.{◌≡◌, sym, ◌∙◌}
-use mathlib.Core.Bool.{false}
+use mathlib.Core.Path.{sym, ◌∙◌}
 use native.Mathlib.Omega.{arith}
 use Rattle.usb_model.specs.Walk.{descriptor_of}
-use Rattle.usb_walk.specs.Steps.{cut_off}
 use Rattle.usb_walk.proofs.Descriptors.{cut_short, not-cut, whole_long, interface-alternate, interface-high, interface-stored}
 use Rattle.usb_walk.proofs.interface_descriptor.Goals as goal
 

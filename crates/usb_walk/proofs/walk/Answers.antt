@@ -1,10 +1,7 @@
 -- `usb_walk::walk` meets its contract. The loop's invariant: what is left to walk from here gives what the whole walk gives.
 -- Assumes nothing.
-use borrow.Author.Rules.{rules}
 use native.Mathlib.Omega.{arith}
-use Prim.Native.Nat.{◌-◌}
-use lib.ListN.{length}
-use Rattle.usb_walk.proofs.Turns.{Walking, starts-empty, starts, ends, ended, refused, moves, goes_on}
+use Rattle.usb_walk.proofs.Turns.{starts-empty, starts, ends, ended, refused, moves, goes_on}
 use Rattle.usb_walk.proofs.walk.Goals as goal
 
 pub returns-then-descriptors-eq0 : goal.returns-then-descriptors-eq0

@@ -1,10 +1,8 @@
 -- `usb_walk::walk` meets its contract. The loop's invariant: what is left to walk from here gives what the whole walk gives.
 -- Assumes nothing.
-use borrow.Author.Rules.{rules}
-use native.Mathlib.Omega.{arith}
 use Prim.Native.Nat.{◌-◌}
 use lib.ListN.{length}
-use Rattle.usb_walk.proofs.Turns.{Walking, starts-empty, starts, ends, ended, refused, moves, goes_on}
+use Rattle.usb_walk.proofs.Turns.{Walking}
 use Rattle.usb_walk.proofs.walk.Given as goal
 
 abbrev pub invariant-loop-offset : goal.invariant-loop-offset

@@ -4,7 +4,6 @@ use mathlib.Core.Path.{sym, ◌∙◌}
 use mathlib.Core.Bool.{true, false}
 use mathlib.Core.List.{[]}
 use lib.ListN.{replicate, length-replicate}
-use borrow.Author.Rules.{rules}
 use Rattle.usb_model.proofs.Accepted.{hub-accepted}
 use Rattle.usb_entry.proofs.Verdicts.{stays-refused, tested}
 use Rattle.usb_entry.proofs.verdict.child_verdict.Goals as goal

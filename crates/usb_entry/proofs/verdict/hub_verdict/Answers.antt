@@ -1,8 +1,6 @@
 -- `usb_entry::verdict::hub_verdict` meets its contract. Assumes nothing.
 use mathlib.Core.Path.{sym, ap, ◌∙◌}
 use mathlib.Core.Bool.{not}
-use borrow.Author.Rules.{rules}
-use borrow.Author.Tests.{not-false}
 use Rattle.usb_entry.proofs.Verdicts.{hub-wrong, hub-damaged, hub-none, hub-there}
 use Rattle.usb_entry.proofs.verdict.hub_verdict.Goals as goal
 

@@ -1,5 +1,4 @@
 -- `usb_entry::verdict::is_unused` meets its contract. Assumes nothing.
-use borrow.Author.Rules.{rules}
 use borrow.Author.Tests.{le-leb, lt-leb}
 use Rattle.usb_entry.proofs.verdict.is_unused.Goals as goal
 

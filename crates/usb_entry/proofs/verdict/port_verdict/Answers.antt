@@ -1,7 +1,6 @@
 -- `usb_entry::verdict::port_verdict` meets its contract. Assumes nothing.
 use mathlib.Core.Path.{sym}
 use mathlib.Core.Bool.{true, false}
-use borrow.Author.Rules.{rules}
 use borrow.Author.Tests.{lt-ltb, le-ltb}
 use Rattle.usb_entry.proofs.Verdicts.{stays-refused, tested}
 use Rattle.usb_entry.proofs.verdict.port_verdict.Goals as goal

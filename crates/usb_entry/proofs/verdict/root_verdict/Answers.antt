@@ -2,7 +2,6 @@
 use mathlib.Core.Path.{sym, ap, ◌∙◌}
 use mathlib.Core.Bool.{not}
 use borrow.Author.Rules.{rules}
-use borrow.Author.Tests.{not-false}
 use Rattle.usb_entry.proofs.Verdicts.{root-wrong, root-high, root-damaged, root-attached, root-no-speed, root-accepted}
 use Rattle.usb_entry.proofs.verdict.root_verdict.Goals as goal
 

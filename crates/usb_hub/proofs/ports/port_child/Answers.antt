@@ -1,5 +1,4 @@
 -- `usb_hub::ports::port_child` meets its contract. Assumes nothing.
-use borrow.Author.Rules.{rules}
 use mathlib.Core.Path.{◌∙◌}
 use Rattle.usb_device.proofs.HubRecord.{child-at}
 use Rattle.usb_hub.proofs.ports.port_child.Goals as goal

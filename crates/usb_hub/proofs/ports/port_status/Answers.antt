@@ -1,5 +1,4 @@
 -- `usb_hub::ports::port_status` meets its contract. Assumes nothing.
-use borrow.Author.Rules.{rules}
 use mathlib.Core.Path.{◌∙◌}
 use Rattle.usb_device.proofs.HubRecord.{status-at}
 use Rattle.usb_hub.proofs.ports.port_status.Goals as goal

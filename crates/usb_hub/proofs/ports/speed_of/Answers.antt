@@ -1,5 +1,4 @@
 -- `usb_hub::ports::speed_of` meets its contract. Assumes nothing.
-use borrow.Author.Rules.{rules}
 use mathlib.Core.Path.{sym, ◌∙◌}
 use Rattle.usb_model.specs.Features.{bit}
 use Rattle.usb_model.specs.Hub.{speed_of}

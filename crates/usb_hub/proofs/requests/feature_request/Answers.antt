@@ -1,5 +1,4 @@
 -- `usb_hub::requests::feature_request` meets its contract. Assumes nothing.
-use borrow.Author.Rules.{rules}
 use Rattle.usb_hub.proofs.requests.feature_request.Goals as goal
 
 pub returns-then-set : goal.returns-then-set

@@ -1,5 +1,4 @@
 -- `usb_hub::requests::hub_change_port_feature` meets its contract. Assumes nothing.
-use borrow.Author.Rules.{rules}
 use Rattle.usb_transfer.proofs.Steps.{dropped}
 use Rattle.usb_model.specs.Hub.{hub_change_port_feature}
 use Rattle.usb_hub.proofs.requests.hub_change_port_feature.Goals as goal

@@ -1,5 +1,4 @@
 -- `usb_hub::requests::hub_port_get_status` meets its contract. Assumes nothing.
-use borrow.Author.Rules.{rules}
 use Rattle.usb_transfer.proofs.Steps.{dropped}
 use Rattle.usb_model.specs.Hub.{hub_port_get_status}
 use Rattle.usb_hub.proofs.requests.hub_port_get_status.Goals as goal

@@ -1,5 +1,4 @@
 -- `usb_hub::requests::hub_power_on` meets its contract. Assumes nothing.
-use borrow.Author.Rules.{rules}
 use borrow.Author.Tests.{eq-eqb, ne_eqb}
 use Rattle.usb_transfer.proofs.Steps.{not-ok, next, next-ended, got, done-if, done-unless}
 use Rattle.usb_transfer.proofs.Logged.{logged}

@@ -1,5 +1,4 @@
 -- `usb_hub::requests::ignore` meets its contract. Assumes nothing.
-use borrow.Author.Rules.{rules}
 use Rattle.usb_transfer.proofs.Steps.{not-stop}
 use Rattle.usb_hub.proofs.Parts.{ignored-stop, ignored-rest}
 use Rattle.usb_hub.proofs.requests.ignore.Goals as goal

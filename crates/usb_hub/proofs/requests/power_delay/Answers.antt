@@ -1,5 +1,4 @@
 -- `usb_hub::requests::power_delay` meets its contract. Assumes nothing.
-use borrow.Author.Rules.{rules}
 use Rattle.usb_hub.proofs.Parts.{delay-none, delay-some}
 use Rattle.usb_hub.proofs.requests.power_delay.Goals as goal
 

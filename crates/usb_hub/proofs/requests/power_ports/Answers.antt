@@ -1,12 +1,7 @@
 -- `usb_hub::requests::power_ports` meets its contract. The loop's invariant: what is left to run is the whole. Assumes nothing.
 use borrow.Author.Rules.{rules}
 use mathlib.Core.Path.{refl}
-use Prim.Native.Nat.{◌-◌}
-use Rattle.usb_model.specs.Programs.{ignore, each}
-use Rattle.usb_model.specs.Features.{port_power}
-use Rattle.usb_model.specs.Hub.{set_port_feature}
-use Rattle.usb_transfer.specs.Runs.{here}
-use Rattle.usb_transfer.proofs.Steps.{not-ok, as-ok, Going, going, ends_with, each-starts, each_last, each-ended, each_goes}
+use Rattle.usb_transfer.proofs.Steps.{not-ok, as-ok, going, ends_with, each-starts, each_last, each-ended, each_goes}
 use Rattle.usb_hub.specs.Parts.{power_ports}
 use Rattle.usb_hub.proofs.Parts.{ignores-as}
 use Rattle.usb_hub.proofs.requests.power_ports.Goals as goal

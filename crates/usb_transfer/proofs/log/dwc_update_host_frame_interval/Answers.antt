@@ -1,5 +1,4 @@
 -- `usb_transfer::log::dwc_update_host_frame_interval` meets its contract. Assumes nothing.
-use borrow.Author.Rules.{rules}
 use Rattle.usb_model.specs.World.{dwc_update_host_frame_interval}
 use Rattle.usb_transfer.proofs.log.dwc_update_host_frame_interval.Goals as goal
 

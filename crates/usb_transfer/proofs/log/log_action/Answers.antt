@@ -1,5 +1,4 @@
 -- `usb_transfer::log::log_action` meets its contract. Assumes nothing.
-use borrow.Author.Rules.{rules}
 use Rattle.usb_transfer.proofs.Logged.{action-full, action-logged}
 use Rattle.usb_transfer.proofs.log.log_action.Goals as goal
 

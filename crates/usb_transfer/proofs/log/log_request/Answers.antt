@@ -1,5 +1,4 @@
 -- `usb_transfer::log::log_request` meets its contract. Assumes nothing.
-use borrow.Author.Rules.{rules}
 use Rattle.usb_transfer.proofs.Steps.{not-ok}
 use Rattle.usb_transfer.proofs.Logged.{request-ended, request-logged}
 use Rattle.usb_transfer.proofs.log.log_request.Goals as goal

@@ -1,5 +1,4 @@
 -- `usb_transfer::log::micro_delay` meets its contract. Assumes nothing.
-use borrow.Author.Rules.{rules}
 use Rattle.usb_model.specs.World.{micro_delay}
 use Rattle.usb_transfer.proofs.log.micro_delay.Goals as goal
 

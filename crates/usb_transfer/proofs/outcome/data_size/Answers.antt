@@ -1,5 +1,4 @@
 -- `usb_transfer::outcome::data_size` meets its contract. Assumes nothing.
-use borrow.Author.Rules.{rules}
 use native.Mathlib.Omega.{arith}
 use Rattle.usb_transfer.proofs.Outcomes.{size_is}
 use Rattle.usb_transfer.proofs.outcome.data_size.Goals as goal

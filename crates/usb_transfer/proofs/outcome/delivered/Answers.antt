@@ -1,5 +1,4 @@
 -- `usb_transfer::outcome::delivered` meets its contract. Assumes nothing.
-use borrow.Author.Rules.{rules}
 use mathlib.Core.Path.{refl}
 use native.Mathlib.Nat.{add-sub_cancel_left}
 use Rattle.usb_transfer.proofs.outcome.delivered.Goals as goal

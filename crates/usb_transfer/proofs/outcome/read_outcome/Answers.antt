@@ -1,5 +1,4 @@
 -- `usb_transfer::outcome::read_outcome` meets its contract. Assumes nothing.
-use borrow.Author.Rules.{rules}
 use mathlib.Core.Path.{sym, ◌∙◌}
 use Rattle.usb_transfer.proofs.Outcomes.{takes_none, takes-garbled, takes-cut, takes_whole}
 use Rattle.usb_transfer.proofs.outcome.read_outcome.Goals as goal
