@@ -1,22 +1,22 @@
 # The two commands of the README: make run, make test. The others are named where they are used.
 CARGO = cargo --quiet
-# where the library and busrun are proved and built
-TREE = .
-LIBRARY = $(TREE)/target/staticlib/liblidrumak.a
-BUSRUN = $(TREE)/target/bin/busrun
-export LIDRUMAK_LIBRARY = $(abspath $(TREE)/target/staticlib)
+# the library and the programs, once they are proved and built
+LIBRARY = target/staticlib/liblidrumak.a
+BUSRUN = crates/busrun/out/busrun
+STORECHECK = crates/storecheck/out/storecheck
+VECTORS = crates/vectors/out/vectors
+export LIDRUMAK_LIBRARY = $(abspath target/staticlib)
 export LIDRUMAK_BUSRUN = $(abspath $(BUSRUN))
-SOURCES := crates.txt $(shell find crates -name '*.rt' -o -name '*.antt')
+SOURCES := crates.txt $(shell find crates -name out -prune -o \( -name '*.rt' -o -name '*.antt' \) -print)
 
 .PHONY: run test reference port compare rust c-example vectors record bench bench-count
 
 # The bus of a bench start is attached: each action, 16 bytes a line, with what it means. Then the store that the original left after the
 # same start: is it sound, and how many devices does it hold?
-run:
-	@rt check busrun storecheck
+run: $(BUSRUN) $(STORECHECK)
 	@cd reference && $(CARGO) build --release --bin show_log
 	@$(BUSRUN) < samples/bench_start.outcomes | reference/target/release/show_log
-	@target/bin/storecheck < crates/storecheck/stdin
+	@$(STORECHECK) < crates/storecheck/stdin
 
 # All tests. The last line is that of rt ci: 'N passed, 0 failed'.
 test:
@@ -28,14 +28,24 @@ reference:
 	@cd reference && $(CARGO) run --release --bin bench_lines
 	@cd reference && $(CARGO) run --release --bin random_calls
 
-# The port as a static library and busrun, proved. rt ci removes them with target/.
+# The port as a static library and busrun, proved.
 port: $(LIBRARY) $(BUSRUN)
 
+# lidrumak_c has the calls with the symbols of the header.
 $(LIBRARY): $(SOURCES)
-	@cd $(TREE) && rt staticlib lidrumak
+	@cd crates/lidrumak_c && rt lib
+	@mkdir -p $(@D) && cp crates/lidrumak_c/out/liblidrumak_c.a $@
 
-$(BUSRUN): $(LIBRARY)
-	@cd $(TREE) && rt check busrun
+# rt run proves a program, links it into out/ and runs it, here on no input. One at a time: each checks the libraries below it.
+$(BUSRUN): $(SOURCES) | $(LIBRARY)
+	@cd crates/busrun && rt run < /dev/null > /dev/null
+
+$(STORECHECK): $(SOURCES) | $(BUSRUN)
+	@cd crates/storecheck && rt run < /dev/null > /dev/null
+
+# Where it runs here vectors finds no recorded answers, and says so.
+$(VECTORS): $(SOURCES) | $(LIBRARY)
+	@cd crates/vectors && rt run > /dev/null 2>&1 || test -x out/vectors
 
 # The port beside the original: the recorded calls and walks, tables made by hand, busrun, 1,000,000 random walks and 200,000
 # random calls. 'make compare N=1000000' gives the number of both.
@@ -54,9 +64,8 @@ c-example: $(LIBRARY)
 	@target/attach < samples/bench_start.outcomes
 
 # Replays the recorded answers through the port.
-vectors:
-	@rt check vectors
-	@cd crates/vectors/data && ../../../target/bin/vectors
+vectors: $(VECTORS)
+	@cd crates/vectors/data && ../out/vectors
 
 # Records the original's answers anew, into crates/vectors/data, and the bench start.
 record:

@@ -1,32 +1,23 @@
 #!/bin/sh
-# All tests: rt ci, and beside it the tests in Rust. What these print comes first; the last line is that of rt ci.
+# All tests: rt ci, and beside it the tests of the original; then those in Rust and C that link what it has proved. What these print comes
+# first; the last line is that of rt ci.
 cd "$(dirname "$0")" || exit 2
-rt fmt --check || exit 1
-
-# A folder for a copy of the crates and for temporary files, 200 MB for a check: in memory, where /dev/shm has 4 GB free and programs run
-# from it.
-copy=''
-trap 'kill $ci 2>/dev/null; rm -rf "$copy"' EXIT
+verdict=$(mktemp) || exit 2
+trap 'kill $ci 2>/dev/null; rm -f "$verdict"' EXIT
 trap 'exit 130' INT TERM
-free=$(df -Pk /dev/shm 2>/dev/null | awk 'NR == 2 { print int($4 / 1048576) }')
-if [ -z "${TMPDIR:-}" ] && [ "${free:-0}" -ge 4 ]; then
-    copy=$(mktemp -d -p /dev/shm) && cp /bin/sh "$copy/sh" && "$copy/sh" -c : || { rm -rf "$copy"; copy=''; }
-fi
-[ -n "$copy" ] || copy=$(mktemp -d) || exit 2
-mkdir "$copy/tmp" "$copy/target" && chmod 711 "$copy" && cp -R crates crates.txt "$copy" || exit 2
-export TMPDIR="$copy/tmp"
 
-rm -rf target
-rt ci >"$copy/verdict" 2>&1 &
+rt ci >"$verdict" 2>&1 &
 ci=$!
 make --no-print-directory reference
 reference=$?
-# The library that the other tests link is built in the copy, from the crates that this rt ci has proved: it owns target/.
-until [ -f target/stamp/lidrumak ] || ! kill -0 $ci 2>/dev/null; do sleep 1; done
-cp -R target/stamp "$copy/target" && cp -R target/rlib "$copy/target" && make --no-print-directory compare rust TREE="$copy"
-port=$?
 wait $ci
-verdict=$? ci=''
-cat "$copy/verdict"
+proved=$? ci=''
+port=1
+[ $proved = 0 ] && { make --no-print-directory compare rust; port=$?; }
+cat "$verdict"
+if grep -Eq '^rt: ok.*, 0*[1-9][0-9]* bad' "$verdict"; then
+    echo 'FAILED: an edit that must fail does not fit its file'
+    exit 1
+fi
+[ $proved = 0 ] || exit $proved
 [ "$reference$port" = 00 ] || { echo 'FAILED: the tests in Rust'; exit 1; }
-exit $verdict

@@ -1,4 +1,4 @@
-// The calls that the kernel makes: numbers and byte slices.
+// The calls: numbers and byte slices.
 #![tactic(auto)]
 
 ghost use Rattle.std.specs.Prelude.{◌≡◌};
@@ -17,8 +17,7 @@ use usb_types::types::{Refusal, answer_number, refusal_number};
 use usb_walk::{RECORD_LEN, walk};
 
 // UsbAttachRootHub.
-#[unsafe(no_mangle)]
-pub extern "C" fn lidrumak_root_attach(
+pub fn lidrumak_root_attach(
     old: &[u8],
     new: &mut [u8],
     outcomes: &[u8],
@@ -37,8 +36,7 @@ pub extern "C" fn lidrumak_root_attach(
 }
 
 // HubCheckForChange.
-#[unsafe(no_mangle)]
-pub extern "C" fn lidrumak_scan(
+pub fn lidrumak_scan(
     old: &[u8],
     new: &mut [u8],
     outcomes: &[u8],
@@ -57,8 +55,7 @@ pub extern "C" fn lidrumak_scan(
 }
 
 // HubCheckConnection.
-#[unsafe(no_mangle)]
-pub extern "C" fn lidrumak_port_check(
+pub fn lidrumak_port_check(
     old: &[u8],
     new: &mut [u8],
     outcomes: &[u8],
@@ -78,8 +75,7 @@ pub extern "C" fn lidrumak_port_check(
 }
 
 // HubChildReset.
-#[unsafe(no_mangle)]
-pub extern "C" fn lidrumak_child_reset(
+pub fn lidrumak_child_reset(
     old: &[u8],
     new: &mut [u8],
     outcomes: &[u8],
@@ -99,8 +95,7 @@ pub extern "C" fn lidrumak_child_reset(
 }
 
 // HubCheckConnectionDevice.
-#[unsafe(no_mangle)]
-pub extern "C" fn lidrumak_child_check(
+pub fn lidrumak_child_check(
     old: &[u8],
     new: &mut [u8],
     outcomes: &[u8],
@@ -120,8 +115,7 @@ pub extern "C" fn lidrumak_child_check(
 }
 
 // HubPortReset.
-#[unsafe(no_mangle)]
-pub extern "C" fn lidrumak_retried_reset(
+pub fn lidrumak_retried_reset(
     old: &[u8],
     new: &mut [u8],
     outcomes: &[u8],
@@ -141,8 +135,7 @@ pub extern "C" fn lidrumak_retried_reset(
 }
 
 // HubPortConnectionChanged.
-#[unsafe(no_mangle)]
-pub extern "C" fn lidrumak_connection_change(
+pub fn lidrumak_connection_change(
     old: &[u8],
     new: &mut [u8],
     outcomes: &[u8],
@@ -164,8 +157,7 @@ pub extern "C" fn lidrumak_connection_change(
 // "Over 65,535 descriptor bytes, or a record of another length, is -2".
 const MAX_DESCRIPTORS: usize = 65535;
 
-#[unsafe(no_mangle)]
-pub extern "C" fn lidrumak_configuration_walk(descriptors: &[u8], record: &mut [u8]) -> i32
+pub fn lidrumak_configuration_walk(descriptors: &[u8], record: &mut [u8]) -> i32
     ensures { walk_left result «record».new ≡ configuration_walk descriptors.now «record».old }
 {
     let refused = refusal_number(Refusal::BadArgument);
