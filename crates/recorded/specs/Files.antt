@@ -2,9 +2,7 @@
 use Rattle.std.specs.Prelude.{◌≡◌, Bool, true, List, ℕ, ◌<◌, length, drop}
 use Rattle.recorded.specs.Heads.{fits, walk_fits}
 use Rattle.recorded.specs.declared.file.NextCall.{NextCall}
-use Rattle.recorded.specs.declared.file.NextCall.TheVariants as NextCall
 use Rattle.recorded.specs.declared.file.NextWalk.{NextWalk}
-use Rattle.recorded.specs.declared.file.NextWalk.TheVariants as NextWalk
 
 -- n bytes were asked for into a buffer: the bytes behind them stay, and every file holds 0 bytes more
 pub record Asks (n : ℕ) (buffer buffer' : List ℕ) (r : Bool) : Type 0 where
