@@ -1,7 +1,7 @@
 // The files of recorded calls and walks: what is read next.
-ghost use Rattle.std.specs.Prelude.{◌≡◌, ◌≤◌, length, drop, codes, IfOk, OnOk, OnErr};
-ghost use Rattle.std.specs.Io.KnownBytes.{Appends};
-ghost use Rattle.recorded.specs.Files.{Asks, CallRead, WalkRead};
+ghost use Rattle.std.specs.Prelude.{◌≡◌, ◌≤◌, length, take, drop, true, codes, IfOk, OnOk, OnErr};
+ghost use Rattle.std.specs.Io.KnownBytes.{Appends, Consumes};
+ghost use Rattle.recorded.specs.Files.{Asks, CallRead, CallIsNext, WalkRead, WalkIsNext};
 
 use crate::head::{
     Asked, HEAD_LEN, Recorded, RecordedWalk, WALK_HEAD_LEN, asked_in, fits, recorded_in, walk_fits,
@@ -36,6 +36,7 @@ fn write_garbled<W: Write>(out: &mut W) -> io::Result<()>
 fn is_read<R: Read>(reader: &mut R, buffer: &mut [u8], n: usize) -> io::Result<bool>
     requires { n ≤ length buffer.old }
     ensures asks { IfOk result (Asks n buffer.old buffer.new) }
+    ensures bytes { IfOk result (λ r. r ≡ true → Consumes (R.remaining reader.old) (R.remaining reader.new) (take n buffer.new)) }
     ensures failed { OnErr result (drop n buffer.new ≡ drop n buffer.old) }
 {
     let got = read_full(reader, &mut buffer[..n])?;
@@ -52,7 +53,8 @@ pub fn read_call<R: Read, W: Write>(
     outcomes: &mut [u8],
 ) -> io::Result<NextCall>
     requires { (1275 ≤ length edits.old) × (65536 ≤ length outcomes.old) }
-    ensures { IfOk result CallRead }
+    ensures read { IfOk result CallRead }
+    ensures bytes { IfOk result (CallIsNext (R.remaining reader.old) (R.remaining reader.new) edits.new outcomes.new) }
 {
     let mut head = [0; HEAD_LEN];
     let got = read_full(reader, &mut head)?;
@@ -86,7 +88,8 @@ pub fn read_walk<R: Read, W: Write>(
     descriptors: &mut [u8],
 ) -> io::Result<NextWalk>
     requires { 65536 ≤ length descriptors.old }
-    ensures { IfOk result WalkRead }
+    ensures read { IfOk result WalkRead }
+    ensures bytes { IfOk result (WalkIsNext (R.remaining reader.old) (R.remaining reader.new) descriptors.new) }
 {
     let mut head = [0; WALK_HEAD_LEN];
     let got = read_full(reader, &mut head)?;
