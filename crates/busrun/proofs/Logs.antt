@@ -8,7 +8,6 @@ use lib.ListN.{length, get_or, take, drop, replicate, length-take, length-replic
 use lib.Seq.{get_or-drop, drop-drop}
 use Rattle.usb_store.specs.Layout.{store_length}
 use Rattle.usb_model.specs.Entry.{Left, root_attach}
-use Rattle.io.specs.Counts.{IsPrefixLen}
 use Rattle.usb_entry.specs.declared.reply.Reply.{Reply}
 use Rattle.usb_entry.specs.Replies.{lent, left}
 use Rattle.busrun.specs.Run.{log_length, actions_in, logged, attached, busrun}
@@ -56,5 +55,5 @@ written outcomes log' n e is = ap (λ (k : ℕ). take (k * 16) log') is ∙ ap l
 pub log-long : {log : List ℕ} → log ≡ replicate log_length 0 → length log ≡ log_length
 log-long e = ap length e ∙ length-replicate {A = ℕ} log_length 0
 
-pub counts : (n : ℕ) (l : List ℕ) → n ≤ length l → IsPrefixLen n l
+pub counts : (n : ℕ) (l : List ℕ) → n ≤ length l → (n ≤ length l) × (n ≡ length (take n l))
 counts n l h = (h, omega (arith, length-take n l))

@@ -3,15 +3,18 @@
 
 ghost use Rattle.std.specs.Prelude.{◌≡◌, ◌*◌, ◌≤◌, length, take, replicate};
 ghost use Rattle.usb_types.specs.Actions.{action_length};
-ghost use Rattle.io.specs.Counts.{IsPrefixLen};
 ghost use Rattle.busrun.specs.Run.{log_length, actions_in, attached, busrun};
 
-use libc::{STDIN_FILENO, STDOUT_FILENO};
+use bytes_io::read_full;
 use lidrumak::lidrumak_root_attach;
+use std::io;
 use usb_store::STORE_LEN;
 use usb_types::pipe::ACTION_LEN;
 
 const MAX_ACTIONS: usize = 4096;
+
+// How many bytes of outcomes are read at most.
+const MAX_OUTCOMES: usize = 65536;
 
 // How many actions stand at the start of a log that was zeros.
 fn actions(log: &[u8]) -> usize
@@ -33,8 +36,8 @@ fn attach(outcomes: &[u8], log: &mut [u8]) -> usize
     requires { log.old ≡ replicate log_length 0 }
     ensures log_after { log.new ≡ (attached outcomes.now).log }
     ensures value { result ≡ actions_in 4096 log.new * action_length }
-    ensures log_after_2 { take result log.new ≡ busrun outcomes.now }
-    ensures prefix_len { IsPrefixLen result log.new }
+    ensures bytes { take result log.new ≡ busrun outcomes.now }
+    ensures prefix_len { (result ≤ length log.new) × (result ≡ length (take result log.new)) }
 {
     let old = [0; STORE_LEN];
     let mut new = [0; STORE_LEN];
@@ -42,10 +45,10 @@ fn attach(outcomes: &[u8], log: &mut [u8]) -> usize
     actions(log) * ACTION_LEN
 }
 
-fn main() {
-    let mut outcomes = io::large_buffer();
-    let n = io::read_full(STDIN_FILENO, &mut outcomes);
+fn main(rt: HostRuntime) -> io::Result<()> {
+    let mut outcomes = [0; MAX_OUTCOMES];
+    let n = read_full(&mut rt.stdin(), &mut outcomes)?;
     let mut log = [0; 65536];
     let logged = attach(&outcomes[..n], &mut log);
-    io::write_all(STDOUT_FILENO, &log[..logged]);
+    rt.write_all(&log[..logged])
 }

@@ -85,3 +85,11 @@ unfolding walk_fits
 walk-fitting walk e =
     let p = both (leb walk.descriptors_len 65536) _ e in
     (leb-true _ _ p.0, leb-true _ _ p.1)
+
+pub outcomes-fit : (asked : Asked) → fits asked ≡ true → asked.outcomes_len ≤ 65536
+outcomes-fit asked e = (fitting asked e).outcomes
+
+pub descriptors-fit : (walk : RecordedWalk) → walk_fits walk ≡ true → walk.descriptors_len ≤ 65536
+descriptors-fit walk e = (walk-fitting walk e).0
+
+pub ruleset lengths = (outcomes-fit, descriptors-fit)

@@ -1,12 +1,15 @@
 // The files of recorded calls and walks: what is read next.
-ghost use Rattle.std.specs.Prelude.{◌≡◌, ◌≤◌, length};
-ghost use Rattle.recorded.specs.Files.{Asks, CallRead, WalkRead};
+ghost use Rattle.std.specs.Prelude.{◌≡◌, ◌≤◌, length, take, drop, true, codes, IfOk, OnOk, OnErr};
+ghost use Rattle.std.specs.Io.KnownBytes.{Appends, Consumes};
+ghost use Rattle.recorded.specs.Files.{Asks, CallRead, CallIsNext, WalkRead, WalkIsNext};
 
 use crate::head::{
     Asked, HEAD_LEN, Recorded, RecordedWalk, WALK_HEAD_LEN, asked_in, fits, recorded_in, walk_fits,
     walk_in,
 };
-use libc::STDOUT_FILENO;
+use bytes_io::read_full;
+use std::io;
+use std::io::{Read, Write};
 
 // What calls.bin holds next.
 #[derive(Clone, Copy)]
@@ -23,66 +26,84 @@ pub enum NextWalk {
 }
 
 // Says that a record is cut short, or longer than the buffers.
-fn write_garbled()
-    ensures { result ≡ tt }
+fn write_garbled<W: Write>(out: &mut W) -> io::Result<()>
+    ensures { OnOk result (Appends (W.contents out.old) (W.contents out.new) (codes "a record is garbled\n")) }
 {
-    io::write_all(STDOUT_FILENO, b"a record is garbled\n");
+    out.write_all(b"a record is garbled\n")
 }
 
 // Reads n bytes into the buffer; did the file hold as many?
-fn is_read(fd: i32, buffer: &mut [u8], n: usize) -> bool
+fn is_read<R: Read>(reader: &mut R, buffer: &mut [u8], n: usize) -> io::Result<bool>
     requires { n ≤ length buffer.old }
-    ensures { Asks n buffer.old buffer.new result }
+    ensures asks { IfOk result (Asks n buffer.old buffer.new) }
+    ensures bytes { IfOk result (λ r. r ≡ true → Consumes (R.remaining reader.old) (R.remaining reader.new) (take n buffer.new)) }
+    ensures failed { OnErr result (drop n buffer.new ≡ drop n buffer.old) }
 {
-    io::read_full(fd, &mut buffer[..n]) == n
+    let got = read_full(reader, &mut buffer[..n])?;
+    Ok(got == n)
 }
 
-// Reads a call of calls.bin: at most 255 edits of 5 bytes, and 65,536 bytes of outcomes.
-pub fn read_call(fd: i32, edits: &mut [u8], outcomes: &mut [u8]) -> NextCall
+// Reads a call of calls.bin: at most 255 edits of 5 bytes, and 65,536 bytes of outcomes. A garbled one is written to out
+// as such. Where a read or a write fails, part of a call was read.
+#[tactic(auto, using(crate::proofs::Heads::lengths))]
+pub fn read_call<R: Read, W: Write>(
+    reader: &mut R,
+    out: &mut W,
+    edits: &mut [u8],
+    outcomes: &mut [u8],
+) -> io::Result<NextCall>
     requires { (1275 ≤ length edits.old) × (65536 ≤ length outcomes.old) }
-    ensures { CallRead result }
+    ensures read { IfOk result CallRead }
+    ensures bytes { IfOk result (CallIsNext (R.remaining reader.old) (R.remaining reader.new) edits.new outcomes.new) }
 {
     let mut head = [0; HEAD_LEN];
-    let got = io::read_full(fd, &mut head);
+    let got = read_full(reader, &mut head)?;
     if got == 0 {
-        return NextCall::End;
+        return Ok(NextCall::End);
     }
     let asked = asked_in(&head);
     if got != HEAD_LEN || !fits(asked) {
-        write_garbled();
-        return NextCall::End;
+        write_garbled(out)?;
+        return Ok(NextCall::End);
     }
     let edits_len = asked.edits as usize * 5;
-    let edits_read = is_read(fd, edits, edits_len);
-    let outcomes_read = is_read(fd, outcomes, asked.outcomes_len);
+    let edits_read = is_read(reader, edits, edits_len)?;
+    let outcomes_read = is_read(reader, outcomes, asked.outcomes_len)?;
     if !edits_read || !outcomes_read {
-        write_garbled();
-        return NextCall::End;
+        write_garbled(out)?;
+        return Ok(NextCall::End);
     }
-    NextCall::Call {
+    Ok(NextCall::Call {
         asked,
         recorded: recorded_in(&head),
-    }
+    })
 }
 
-// Reads a walk of walks.bin: at most 65,536 bytes of descriptors.
-pub fn read_walk(fd: i32, descriptors: &mut [u8]) -> NextWalk
+// Reads a walk of walks.bin: at most 65,536 bytes of descriptors. A garbled one is written to out as such. Where a read
+// or a write fails, part of a walk was read.
+#[tactic(auto, using(crate::proofs::Heads::lengths))]
+pub fn read_walk<R: Read, W: Write>(
+    reader: &mut R,
+    out: &mut W,
+    descriptors: &mut [u8],
+) -> io::Result<NextWalk>
     requires { 65536 ≤ length descriptors.old }
-    ensures { WalkRead result }
+    ensures read { IfOk result WalkRead }
+    ensures bytes { IfOk result (WalkIsNext (R.remaining reader.old) (R.remaining reader.new) descriptors.new) }
 {
     let mut head = [0; WALK_HEAD_LEN];
-    let got = io::read_full(fd, &mut head);
+    let got = read_full(reader, &mut head)?;
     if got == 0 {
-        return NextWalk::End;
+        return Ok(NextWalk::End);
     }
     let recorded = walk_in(&head);
     if got != WALK_HEAD_LEN || !walk_fits(recorded) {
-        write_garbled();
-        return NextWalk::End;
+        write_garbled(out)?;
+        return Ok(NextWalk::End);
     }
-    if !is_read(fd, descriptors, recorded.descriptors_len) {
-        write_garbled();
-        return NextWalk::End;
+    if !is_read(reader, descriptors, recorded.descriptors_len)? {
+        write_garbled(out)?;
+        return Ok(NextWalk::End);
     }
-    NextWalk::Walk { recorded }
+    Ok(NextWalk::Walk { recorded })
 }

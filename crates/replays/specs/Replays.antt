@@ -2,7 +2,8 @@
 use Rattle.std.specs.Prelude.{◌≡◌, Bool, true, cond, ◌&&◌, List, ℕ, ◌*◌, ◌≤◌, eqb, length, replicate}
 use Rattle.usb_types.specs.Numbers.{same_int}
 use Rattle.usb_store.specs.Layout.{store_length}
-use Rattle.usb_model.specs.Entry.{Lent, Left, WalkLeft, root_attach, scan, port_check, child_reset, child_check, retried_reset, connection_change, configuration_walk}
+use Rattle.usb_model.specs.Entry.{Lent, Left, WalkLeft, root_attach, scan, port_check, child_reset, child_check}
+use Rattle.usb_model.specs.Entry.{retried_reset, connection_change, configuration_walk}
 use Rattle.usb_entry.specs.Replies.{lent}
 use Rattle.sequences.specs.Sums.{adler}
 use Rattle.recorded.specs.Heads.{fits}

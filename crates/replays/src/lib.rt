@@ -6,7 +6,8 @@ pub mod file;
 ghost use Rattle.std.specs.Prelude.{◌≡◌, true, length};
 ghost use Rattle.usb_entry.specs.Replies.{lent, left};
 ghost use Rattle.recorded.specs.Heads.{walk_fits};
-ghost use Rattle.replays.specs.Replays.{Ready, Replays, entry_point, filled, store_buffer, log_buffer, record_buffer, agrees as Replays·agrees, walked, walk_agrees};
+ghost use Rattle.replays.specs.Replays.{Ready, Replays, entry_point, filled, store_buffer, log_buffer, record_buffer};
+ghost use Rattle.replays.specs.Replays.{agrees as Replays·agrees, walked, walk_agrees};
 
 use lidrumak::{
     lidrumak_child_check, lidrumak_child_reset, lidrumak_configuration_walk,
