@@ -1,5 +1,6 @@
 -- `Safe P P' m Q`: from every state of which P holds, m leaves one of which P' holds, done, failed or halted; and where it is done,
 -- Q holds of its value. One rule for each form of program. Assumes nothing.
+use Rattle.std.specs.Prelude.{if◌then◌else◌}
 use mathlib.Core.Path.{◌≡◌, refl}
 use mathlib.Core.Bool.{Bool, true, false}
 use Prim.Native.Nat.{ℕ, zero, suc, ◌+◌, ◌<◌}
@@ -8,7 +9,7 @@ use Rattle.usb_types.specs.declared.types.ErrorCode.{ErrorCode}
 use Rattle.usb_types.specs.declared.types.Halt.{Halt}
 use Rattle.usb_types.specs.declared.types.Answer.{Answer}
 use Rattle.usb_types.specs.declared.types.Answer.TheVariants.{Ok, Error, Stop}
-use Rattle.usb_model.specs.Programs.{if◌then◌else◌, Ran, done, fail, halt, on, Program, ◌>>=◌, ◌>>◌, return, skip, throw, stop, look, change, ran, succeed, caught, attempt, ignore, when, each, end_of}
+use Rattle.usb_model.specs.Programs.{Ran, done, fail, halt, on, Program, ◌>>=◌, ◌>>◌, return, skip, throw, stop, look, change, ran, succeed, caught, attempt, ignore, when, each, end_of}
 
 abbrev pub Any : {A : Type 0} → A → Type 0
 Any a = Unit {0}

@@ -1,6 +1,7 @@
 -- `Extends more m`: with more outcomes behind those of a world, m does what it did without them. But where it was stopped for want of
 -- outcomes, it logs what it had logged at that stop and goes on from there. One rule for each form of program, then the steps that
 -- the functions are made of. It holds from every world, so no rule has a side condition. Assumes nothing.
+use Rattle.std.specs.Prelude.{if◌then◌else◌}
 use mathlib.Core.Path.{◌≡◌, refl, ap}
 use mathlib.Core.Bool.{Bool, true, false, cond, not}
 use mathlib.Core.List.{List, [], ◌∷◌, ◌++◌}
@@ -20,7 +21,7 @@ use Rattle.usb_types.specs.declared.types.Answer.TheVariants.{Ok, Error, Stop}
 use Rattle.usb_types.specs.declared.request.UsbDeviceRequest.{UsbDeviceRequest}
 use Rattle.usb_types.specs.declared.pipe.UsbPipeAddress.{UsbPipeAddress}
 use Rattle.usb_store.proofs.Writes.{length-write}
-use Rattle.usb_model.specs.Programs.{if◌then◌else◌, Ran, done, fail, halt, on, ◌>>=◌, ◌>>◌, return, skip, throw, stop, look, change, succeed, caught, attempt, ignore, when, each, end_of}
+use Rattle.usb_model.specs.Programs.{Ran, done, fail, halt, on, ◌>>=◌, ◌>>◌, return, skip, throw, stop, look, change, succeed, caught, attempt, ignore, when, each, end_of}
 use Rattle.usb_model.specs.World.{World, M, get, get_bytes, get_number, put_bytes, appended, counted, log_action, log_request, micro_delay, dwc_update_host_frame_interval}
 use Rattle.usb_model.specs.Transfer.{Outcome, taken, size_of, outcome_of, take_outcome}
 use Rattle.usb_model.specs.Kept.{kinds_in, requests_in, is_kind, Onward}

@@ -1,5 +1,6 @@
 -- Triples over worlds with their history. `Does P m Q N`: from a state of P the program m is done in Q, or failed in N; of a halt, which
 -- stops the whole call, nothing is said. Assumes nothing.
+use Rattle.std.specs.Prelude.{if◌then◌else◌}
 use mathlib.Core.Path.{◌≡◌, refl, sym, subst}
 use mathlib.Core.Bool.{Bool, true, false, true≢false, false≢true}
 use mathlib.Core.List.{List}
@@ -10,7 +11,7 @@ use Rattle.usb_types.specs.declared.types.Halt.{Halt}
 use Rattle.usb_types.specs.declared.types.Answer.{Answer}
 use Rattle.usb_types.specs.declared.types.Answer.TheVariants.{Ok, Error, Stop}
 use Rattle.usb_store.specs.Access.{byte_at}
-use Rattle.usb_model.specs.Programs.{if◌then◌else◌, Ran, done, fail, halt, on, ◌>>=◌, ◌>>◌, return, skip, throw, look, change, ran, succeed, caught, attempt, ignore, when, each}
+use Rattle.usb_model.specs.Programs.{Ran, done, fail, halt, on, ◌>>=◌, ◌>>◌, return, skip, throw, look, change, ran, succeed, caught, attempt, ignore, when, each}
 use Rattle.usb_model.specs.World.{World, M, with_store, get, get_number}
 use Rattle.usb_model.specs.Hub.{is_ok}
 use Rattle.usb_model.specs.Kept.{Good}

@@ -1,5 +1,5 @@
 -- The entry points, whole: the refusals in document 01's order, the call on a copy of the old store, the answer and the count.
-use Rattle.std.specs.Prelude.{Bool, false, not, ◌||◌, List, ℕ, eqb, leb, ltb, ℤ, length}
+use Rattle.std.specs.Prelude.{if◌then◌else◌, Bool, false, not, ◌||◌, List, ℕ, eqb, leb, ltb, ℤ, length}
 use Rattle.usb_types.specs.Numbers.{minus}
 use Rattle.usb_types.specs.Answers.{error_number, halt_number, answer_number, refusal_number}
 use Rattle.usb_types.specs.declared.types.Refusal.{Refusal}
@@ -8,7 +8,7 @@ use Rattle.usb_store.specs.Layout.{place_count, store_length, used_field, hub_fi
 use Rattle.usb_store.specs.Access.{byte_at}
 use Rattle.usb_store.specs.Values.{not_hub}
 use Rattle.usb_sound.specs.Test.{sound}
-use Rattle.usb_model.specs.Programs.{if◌then◌else◌, Ran, done, fail, halt, end_of}
+use Rattle.usb_model.specs.Programs.{Ran, done, fail, halt, end_of}
 use Rattle.usb_model.specs.World.{World, M}
 use Rattle.usb_model.specs.Walk.{record_length, walk}
 use Rattle.usb_model.specs.Hub.{hub_port_reset, hub_child_reset, hub_port_connection_changed, hub_check_connection, hub_check_connection_device, hub_check_for_change}

@@ -1,13 +1,9 @@
 -- Programs over a state. Each ends done with a value, failed with a code or halted, and leaves a state.
-use Rattle.std.specs.Prelude.{Bool, cond, ℕ, zero, suc, ◌+◌}
+use Rattle.std.specs.Prelude.{if◌then◌else◌, Bool, cond, ℕ, zero, suc, ◌+◌}
 use Rattle.usb_types.specs.declared.types.ErrorCode.{ErrorCode}
 use Rattle.usb_types.specs.declared.types.Halt.{Halt}
 use Rattle.usb_types.specs.declared.types.Answer.{Answer}
 use Rattle.usb_types.specs.declared.types.Answer.TheVariants.{Ok, Error, Stop}
-
-infixr 15 if◌then◌else◌
-abbrev pub if◌then◌else◌ : {A : Type 0} → Bool → A → A → A
-if b then x else y = cond b x y
 
 -- document 01: "Answers −13 to −15 stop the whole call; −10 and −11 travel upward as the Rust's codes do"
 pub data Ran (S A : Type 0) : Type 0 where

@@ -1,12 +1,12 @@
 -- usbd.rs: the device descriptor, address, configuration, and the place of a new device.
-use Rattle.std.specs.Prelude.{not, ℕ, eqb, length}
+use Rattle.std.specs.Prelude.{if◌then◌else◌, not, ℕ, eqb, length}
 use Rattle.usb_types.specs.Requests.{set_address_code, set_configuration_code, to_device, device_request}
 use Rattle.usb_types.specs.Descriptors as Descriptors
 use Rattle.usb_types.specs.declared.types.ErrorCode.TheVariants.{Device, BusFull}
 use Rattle.usb_store.specs.Layout.{place_count, number_field, speed_field, status_field, configuration_index_field, device_descriptor_field, max_packet_size0_field, configuration_descriptor_field, total_length_field, configuration_value_field, interfaces_field}
 use Rattle.usb_store.specs.Values.{high_speed, low_speed, default_status, addressed_status, configured_status}
 use Rattle.usb_device.specs.Device.{new_device, first_unused}
-use Rattle.usb_model.specs.Programs.{if◌then◌else◌, ◌>>=◌, ◌>>◌, return, skip, throw, look, succeed, when}
+use Rattle.usb_model.specs.Programs.{◌>>=◌, ◌>>◌, return, skip, throw, look, succeed, when}
 use Rattle.usb_model.specs.World.{M, get, get_bytes, get_number, put, put_bytes, micro_delay}
 use Rattle.usb_model.specs.Transfer.{into, nowhere, usb_control_message, control, usb_get_descriptor}
 use Rattle.usb_model.specs.Walk.{record_length, walk}
