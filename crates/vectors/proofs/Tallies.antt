@@ -7,6 +7,9 @@ use native.Mathlib.Omega.{arith}
 use borrow.Author.Tests.{ltb-true}
 use lib.Dec.{ltb}
 use lib.ListN.{length}
+use Rattle.std.proofs.Common.{Ok, Err, OnErr}
+use Rattle.std.specs.declared.result.Result.{Result}
+use Rattle.vectors.specs.Counts.{CountsFile, none}
 use Rattle.sequences.specs.Counts.{noted, Tallied}
 use Rattle.replays.specs.Files.{OfFile}
 use Rattle.replays.specs.declared.file.Next.{Next}
@@ -29,3 +32,9 @@ still false differ n h = go (ltb n (length differ)) (ltb-true n (length differ))
 pub noted-room : {agreed differ agreed' differ' : List ℕ} {entry n number n' : ℕ} {agrees : Bool}
     → Tallied agreed differ entry agrees n number agreed' differ' n' → n ≤ length differ → length differ' ≡ length differ → n' ≤ length differ'
 noted-room {differ = differ} {n = n} {agrees = agrees} t h e = rw (t.number-noted, e) (still agrees differ n h)
+
+-- nothing was read
+pub none-read : {A E : Type 0} (r : Result A E) (walks : Bool) (seen agreed differ : List ℕ)
+    → OnErr r ((n : ℕ) × CountsFile walks seen agreed differ seen agreed differ n)
+none-read (Ok x) walks seen agreed differ = tt
+none-read (Err e) walks seen agreed differ = (0, record { records = 0; counts = none; room = omega arith })
