@@ -36,13 +36,7 @@ pub fn lidrumak_root_attach(
 }
 
 // HubCheckForChange.
-pub fn lidrumak_scan(
-    old: &[u8],
-    new: &mut [u8],
-    outcomes: &[u8],
-    log: &mut [u8],
-    hub: u32,
-) -> Reply
+pub fn lidrumak_scan(old: &[u8], new: &mut [u8], outcomes: &[u8], log: &mut [u8], hub: u32) -> Reply
     ensures { left result new.new log.new
         ≡ scan hub (lent old.now new.old outcomes.now log.old) }
 {
