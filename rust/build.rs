@@ -1,13 +1,16 @@
 //! Finds liblidrumak.a, or has `rt` write it.
 
 use std::env;
+use std::fs;
 use std::path::{Path, PathBuf};
 use std::process::Command;
 
 const VARIABLE: &str = "LIDRUMAK_LIBRARY";
-const ROOT: &str = "..";
+const CRATE: &str = "../crates/lidrumak_c";
+const WRITTEN: &str = "out/liblidrumak_c.a";
 const DEFAULT: &str = "../target/staticlib";
 const FILE: &str = "liblidrumak.a";
+const COMMAND: &str = "'rt lib' in crates/lidrumak_c";
 const ARCHITECTURE: &str = "x86_64";
 
 fn main() {
@@ -34,7 +37,7 @@ fn library_folder() -> Result<PathBuf, String> {
     let target = env::var("CARGO_CFG_TARGET_ARCH").unwrap_or_default();
     if target != ARCHITECTURE {
         return Err(format!(
-            "'rt staticlib lidrumak' writes {FILE} for {ARCHITECTURE}, and the target is {target}: \
+            "{COMMAND} writes {FILE} for {ARCHITECTURE}, and the target is {target}: \
              set {VARIABLE} to the folder of one for that"
         ));
     }
@@ -42,8 +45,8 @@ fn library_folder() -> Result<PathBuf, String> {
         return Ok(folder);
     }
     write_library()?;
-    found_in(Path::new(DEFAULT))
-        .ok_or_else(|| format!("'rt staticlib lidrumak' ended well and wrote no {DEFAULT}/{FILE}"))
+    put_library().map_err(|_| format!("{COMMAND} ended well and wrote no {WRITTEN}"))?;
+    found_in(Path::new(DEFAULT)).ok_or_else(|| format!("{DEFAULT}/{FILE} was not written"))
 }
 
 /// The folder's whole path, if the library is in it.
@@ -53,20 +56,27 @@ fn found_in(folder: &Path) -> Option<PathBuf> {
 }
 
 fn write_library() -> Result<(), String> {
-    let run = Command::new("rt")
-        .args(["staticlib", "lidrumak"])
-        .current_dir(ROOT)
-        .output();
+    let run = Command::new("rt").arg("lib").current_dir(CRATE).output();
     match run {
         Ok(output) if output.status.success() => Ok(()),
         Ok(output) => Err(format!(
-            "'rt staticlib lidrumak' failed: {}",
+            "{COMMAND} failed: {}",
             last_line(&output.stderr).unwrap_or_else(|| output.status.to_string())
         )),
         Err(_) => Err(format!(
-            "{FILE} is missing: set {VARIABLE} to its folder, or run 'rt staticlib lidrumak' in the repository"
+            "{FILE} is missing: set {VARIABLE} to its folder, or run 'make port' in the repository"
         )),
     }
+}
+
+/// Where `make port` puts it too.
+fn put_library() -> std::io::Result<()> {
+    fs::create_dir_all(DEFAULT)?;
+    fs::copy(
+        Path::new(CRATE).join(WRITTEN),
+        Path::new(DEFAULT).join(FILE),
+    )?;
+    Ok(())
 }
 
 fn last_line(text: &[u8]) -> Option<String> {

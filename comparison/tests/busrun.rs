@@ -1,5 +1,5 @@
-//! The program busrun. It is looked for in ../target/bin, from this package's
-//! folder; LIDRUMAK_BUSRUN names another file.
+//! The program busrun. It is looked for in ../crates/busrun/out, from this
+//! package's folder; LIDRUMAK_BUSRUN names another file.
 
 use std::fs::File;
 use std::io::{Seek, Write};
@@ -15,11 +15,11 @@ use reference::vectors::{recorded_calls, RecordedCall, FILL};
 const MOST_INPUT: usize = 65_536;
 
 fn program() -> PathBuf {
-    let built = concat!(env!("CARGO_MANIFEST_DIR"), "/../target/bin/busrun");
+    let built = concat!(env!("CARGO_MANIFEST_DIR"), "/../crates/busrun/out/busrun");
     let path = std::env::var("LIDRUMAK_BUSRUN").unwrap_or_else(|_| built.to_string());
     assert!(
         Path::new(&path).is_file(),
-        "busrun is missing: looked for {path}; 'rt check busrun' writes it, \
+        "busrun is missing: looked for {path}; 'make port' writes it, \
          the variable LIDRUMAK_BUSRUN names another file"
     );
     PathBuf::from(path)

@@ -11,7 +11,7 @@ use std::process::Command;
 fn repository(name: &str) -> PathBuf {
     let root = PathBuf::from(env!("CARGO_TARGET_TMPDIR")).join(name);
     drop(fs::remove_dir_all(&root));
-    for folder in ["rust", "tools", "elsewhere"] {
+    for folder in ["rust", "tools", "elsewhere", "crates/lidrumak_c/out"] {
         fs::create_dir_all(root.join(folder)).unwrap();
     }
     let compiled = Command::new("rustc")
@@ -88,23 +88,22 @@ fn the_variable_comes_first() {
 fn without_a_library_rt_writes_it() {
     let root = repository("build_rt");
     let line = "liblidrumak.a is missing: set LIDRUMAK_LIBRARY to its folder, \
-        or run 'rt staticlib lidrumak' in the repository";
+        or run 'make port' in the repository";
     assert_eq!(build(&root, None), format!("cargo::error={line}"));
 
     put_rt(&root, "echo first >&2; echo 'no proof' >&2; exit 1");
-    let line = "'rt staticlib lidrumak' failed: no proof";
+    let line = "'rt lib' in crates/lidrumak_c failed: no proof";
     assert_eq!(build(&root, None), format!("cargo::error={line}"));
 
     put_rt(&root, "exit 0");
-    let line = "'rt staticlib lidrumak' ended well and wrote no ../target/staticlib/liblidrumak.a";
+    let line = "'rt lib' in crates/lidrumak_c ended well and wrote no out/liblidrumak_c.a";
     assert_eq!(build(&root, None), format!("cargo::error={line}"));
 
     let library = "target/staticlib/liblidrumak.a";
-    fs::create_dir_all(root.join("target/staticlib")).unwrap();
-    put_rt(&root, &format!("echo \"$@\" > {library}"));
+    put_rt(&root, "echo \"$@\" > out/liblidrumak_c.a");
     assert_eq!(build(&root, None), linked(&root.join("target/staticlib")));
     let words = fs::read_to_string(root.join(library)).unwrap();
-    assert_eq!(words, "staticlib lidrumak\n");
+    assert_eq!(words, "lib\n");
 }
 
 #[test]
@@ -114,7 +113,7 @@ fn the_usual_library_is_for_x86_64_alone() {
     put_library(&named);
     put_library(&usual);
     assert_eq!(build_for("x86_64", &root, None), linked(&usual));
-    let line = "'rt staticlib lidrumak' writes liblidrumak.a for x86_64, and the target is \
+    let line = "'rt lib' in crates/lidrumak_c writes liblidrumak.a for x86_64, and the target is \
         aarch64: set LIDRUMAK_LIBRARY to the folder of one for that";
     assert_eq!(
         build_for("aarch64", &root, None),
