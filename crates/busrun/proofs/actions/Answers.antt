@@ -13,7 +13,8 @@ pub bounds-log-n : goal.bounds-log-n
 bounds-log-n c = omega (arith, c.loop-n-test.true, c.requires)
 
 pub returns-then-log-n-eq0 : goal.returns-then-log-n-eq0
-returns-then-log-n-eq0 c = let none = none_left c.args.log.now c.loop-n.n c.loop-n-test.true c.if-log-n-eq0.true in
+returns-then-log-n-eq0 c =
+    let none = none_left c.args.log.now c.loop-n.n c.loop-n-test.true c.if-log-n-eq0.true in
     (omega (arith, none, c.loop-n.invariant.0), c.loop-n.invariant.1)
 
 pub overflow_add-n : goal.overflow_add-n
@@ -23,9 +24,11 @@ pub loop-n-smaller : goal.loop-n-smaller
 loop-n-smaller c = omega (arith, c.loop-n-test.true)
 
 pub loop-n-preserved : goal.loop-n-preserved
-loop-n-preserved c = let counted = one_more c.args.log.now c.loop-n.n c.loop-n-test.true c.if-log-n-eq0.false in
+loop-n-preserved c =
+    let counted = one_more c.args.log.now c.loop-n.n c.loop-n-test.true c.if-log-n-eq0.false in
     (omega (arith, counted, c.loop-n.invariant.0), omega (arith, c.loop-n-test.true))
 
 pub returns : goal.returns
-returns c = let all = all-counted c.args.log.now c.loop-n.n c.loop-n-test.false in
+returns c =
+    let all = all-counted c.args.log.now c.loop-n.n c.loop-n-test.false in
     (omega (arith, all, c.loop-n.invariant.0), c.loop-n.invariant.1)

@@ -9,7 +9,8 @@ pub actions-requires : goal.actions-requires
 actions-requires c = c.lidrumak_root_attach.auto.log ∙ log-long c.requires
 
 pub returns : goal.returns
-returns c = let long = c.lidrumak_root_attach.auto.log ∙ log-long c.requires in
+returns c =
+    let long = c.lidrumak_root_attach.auto.log ∙ log-long c.requires in
     let is = log-left _ _ _ _ _ _ refl c.requires c.lidrumak_root_attach.ensures in
     let counted = c.actions.ensures.0 in
     record {

@@ -27,8 +27,9 @@ hub_check_connection_device-requires c =
         new = bytes_of c.slice_known-1.given;
         outcomes = bytes_of c.shared_slice_known-2-1.given;
         log = bytes_of c.slice_known-2-1.given;
-      }) p.is-sound (first-world (lent c.args.old.now c.args.new.now c.args.outcomes.now c.args.log.now) c.copy_store.ensures c.begin.ensures) _ p.inside p.first,
-      used-inside ((lent c.args.old.now c.args.new.now c.args.outcomes.now c.args.log.now)) _ p.good,
+      }) p.is-sound (first-world (lent c.args.old.now c.args.new.now c.args.outcomes.now c.args.log.now) c.copy_store.ensures c.begin.ensures) _
+          p.inside p.first,
+      used-inside (lent c.args.old.now c.args.new.now c.args.outcomes.now c.args.log.now) _ p.good,
     )
 
 pub returns : goal.returns
@@ -36,4 +37,5 @@ unfolding child_check
 returns c =
     let judged = c.child_verdict-verdict.ensures c.args.new.now c.args.outcomes.now c.args.log.now refl in
     let run = c.hub_check_connection_device.ensures 32 (free-most _) in
-    accepted-call _ _ _ judged c.in_default.is (first-world (lent c.args.old.now c.args.new.now c.args.outcomes.now c.args.log.now) c.copy_store.ensures c.begin.ensures) _ run _ c.report.ensures
+    accepted-call _ _ _ judged c.in_default.is
+    (first-world (lent c.args.old.now c.args.new.now c.args.outcomes.now c.args.log.now) c.copy_store.ensures c.begin.ensures) _ run _ c.report.ensures

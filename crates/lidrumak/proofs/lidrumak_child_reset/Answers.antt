@@ -27,11 +27,12 @@ hub_child_reset-requires c =
       outcomes = bytes_of c.shared_slice_known-2-1.given;
       log = bytes_of c.slice_known-2-1.given;
     }) p.is-sound (first-world (lent c.args.old.now c.args.new.now c.args.outcomes.now c.args.log.now) c.copy_store.ensures c.begin.ensures) in
-    (s.fit, p.inside, used-inside ((lent c.args.old.now c.args.new.now c.args.outcomes.now c.args.log.now)) _ p.good, s.good.most _)
+    (s.fit, p.inside, used-inside (lent c.args.old.now c.args.new.now c.args.outcomes.now c.args.log.now) _ p.good, s.good.most _)
 
 pub returns : goal.returns
 unfolding child_reset
 returns c =
     let judged = c.child_verdict-verdict.ensures c.args.new.now c.args.outcomes.now c.args.log.now refl in
     let run = c.hub_child_reset.ensures in
-    accepted-call _ _ _ judged c.in_default.is (first-world (lent c.args.old.now c.args.new.now c.args.outcomes.now c.args.log.now) c.copy_store.ensures c.begin.ensures) _ run _ c.report.ensures
+    accepted-call _ _ _ judged c.in_default.is
+    (first-world (lent c.args.old.now c.args.new.now c.args.outcomes.now c.args.log.now) c.copy_store.ensures c.begin.ensures) _ run _ c.report.ensures

@@ -34,4 +34,5 @@ unfolding retried_reset
 returns c =
     let judged = c.port_verdict-verdict.ensures c.args.new.now c.args.outcomes.now c.args.log.now refl in
     let run = c.hub_port_reset.ensures in
-    accepted-call _ _ _ judged c.in_default.is (first-world (lent c.args.old.now c.args.new.now c.args.outcomes.now c.args.log.now) c.copy_store.ensures c.begin.ensures) _ run _ c.report.ensures
+    accepted-call _ _ _ judged c.in_default.is
+    (first-world (lent c.args.old.now c.args.new.now c.args.outcomes.now c.args.log.now) c.copy_store.ensures c.begin.ensures) _ run _ c.report.ensures

@@ -31,7 +31,8 @@ usb_attach_root_hub-requires c =
       new = bytes_of c.slice_known-1.given;
       outcomes = bytes_of c.shared_slice_known-2-1.given;
       log = bytes_of c.slice_known-2-1.given;
-    }) (root-accepted _ _ (accepts _ judged c.in_default.is)).is-sound (first-world (lent c.args.old.now c.args.new.now c.args.outcomes.now c.args.log.now) c.copy_store.ensures c.begin.ensures) in
+    }) (root-accepted _ _ (accepts _ judged c.in_default.is)).is-sound
+    (first-world (lent c.args.old.now c.args.new.now c.args.outcomes.now c.args.log.now) c.copy_store.ensures c.begin.ensures) in
     (s.fit, s.good)
 
 pub returns : goal.returns
@@ -39,4 +40,5 @@ unfolding root_attach
 returns c =
     let judged = c.root_verdict-verdict.ensures c.args.new.now c.args.outcomes.now c.args.log.now refl in
     let run = c.usb_attach_root_hub.ensures in
-    accepted-call _ _ _ judged c.in_default.is (first-world (lent c.args.old.now c.args.new.now c.args.outcomes.now c.args.log.now) c.copy_store.ensures c.begin.ensures) _ run _ c.report.ensures
+    accepted-call _ _ _ judged c.in_default.is
+    (first-world (lent c.args.old.now c.args.new.now c.args.outcomes.now c.args.log.now) c.copy_store.ensures c.begin.ensures) _ run _ c.report.ensures

@@ -35,4 +35,5 @@ unfolding scan
 returns c =
     let judged = c.hub_verdict-verdict.ensures c.args.new.now c.args.outcomes.now c.args.log.now refl in
     let run = c.hub_check_for_change.ensures 32 32 (free-most _) (omega arith) in
-    accepted-call _ _ _ judged c.in_default.is (first-world (lent c.args.old.now c.args.new.now c.args.outcomes.now c.args.log.now) c.copy_store.ensures c.begin.ensures) _ run _ c.report.ensures
+    accepted-call _ _ _ judged c.in_default.is
+    (first-world (lent c.args.old.now c.args.new.now c.args.outcomes.now c.args.log.now) c.copy_store.ensures c.begin.ensures) _ run _ c.report.ensures

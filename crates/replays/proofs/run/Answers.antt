@@ -13,6 +13,7 @@ pub carry-requires : goal.carry-requires
 carry-requires c = c.begin.auto.store ∙ c.requires.ready.whole
 
 pub returns : goal.returns
-returns c = let pre = c.requires.len in
+returns c =
+    let pre = c.requires.len in
     replays-by _ _ _ _ _ _ _ _ _ _ _ _ _ _ c.begin.ensures c.old_store.ensures pre.1 pre.2
     c.call-reply.ensures c.carry.ensures c.agrees.ensures

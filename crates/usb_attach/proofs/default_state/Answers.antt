@@ -10,7 +10,8 @@ returns-in_default c = put_then _ _ _ _ c.set_byte.ensures
 
 pub returns : goal.returns
 unfolding default_state
-returns c = let described = rw c.in-Ok.is at c.usb_read_device_descriptor-read.ensures in
+returns c =
+    let described = rw c.in-Ok.is at c.usb_read_device_descriptor-read.ensures in
     rw c.in-Ok.is
     (put_then _ _ _ _ c.set_byte.ensures
     (next described (put_last _ _ _ _ c.set_byte-2.ensures described.fit)))

@@ -9,6 +9,7 @@ returns-in-Stop c = rw c.in-Stop.is (bound-ended _ _ (attempt-stopped c.usb_set_
 
 pub returns : goal.returns
 unfolding addressed
-returns c = let set = c.set_byte.ensures in
+returns c =
+    let set = c.set_byte.ensures in
     let step = attempted c.usb_set_address-step.ensures (not-stop _ c.in_default.not-Stop) in
     bound _ step (put_then _ _ _ _ set (succeeded _ (put-bytes-fit _ _ _ _ set step.fit)))

@@ -16,5 +16,6 @@ returns-then-number-ne1 c = simp (sym c.has.ensures ∙ c.if-has.false, ne_eqb _
 
 pub returns : goal.returns
 unfolding bit
-returns c = let same = sym c.has.ensures ∙ c.if-has.false in
+returns c =
+    let same = sym c.has.ensures ∙ c.if-has.false in
     root-changed _ _ _ c.if-number-ne1.false same _ _ c.has-2.ensures c.has-3.ensures

@@ -11,5 +11,6 @@ returns-in_default c = next-ended _ _ c.over_current-powered.ensures (not-ok _ c
 
 pub returns : goal.returns
 unfolding clear_changes bit
-returns c = let powered = as-ok c.in-Ok.is c.over_current-powered.ensures in
+returns c =
+    let powered = as-ok c.in-Ok.is c.over_current-powered.ensures in
     next powered (ignores-as c.ignore.ensures (rw c.has-due.ensures at c.clear_if.ensures))

@@ -10,5 +10,6 @@ returns-in_default c = next-ended _ _ (rw c.has-suspended.ensures at c.clear_if-
 
 pub returns : goal.returns
 unfolding end_check bit
-returns c = let resumed = rw (c.in-Ok.is, c.has-suspended.ensures) at c.clear_if-resumed.ensures in
+returns c =
+    let resumed = rw (c.in-Ok.is, c.has-suspended.ensures) at c.clear_if-resumed.ensures in
     next resumed (rw c.has-reset.ensures at c.clear_if.ensures)

@@ -8,7 +8,8 @@ use Rattle.usb_check.proofs.over_current.Goals as goal
 
 pub returns-in_default : goal.returns-in_default
 unfolding over_current bit
-returns-in_default c = let clear = ignores-as c.ignore-cleared.ensures c.hub_change_port_feature.ensures in
+returns-in_default c =
+    let clear = ignores-as c.ignore-cleared.ensures c.hub_change_port_feature.ensures in
     done-if (sym c.has.ensures ∙ c.if-has.true) (next-ended _ _ clear (not-ok _ c.in_default.not-Ok))
 
 pub hub_power_on-requires : goal.hub_power_on-requires
@@ -16,7 +17,8 @@ hub_power_on-requires c = ((ignores-as c.ignore-cleared.ensures c.hub_change_por
 
 pub returns-then-has : goal.returns-then-has
 unfolding over_current bit
-returns-then-has c = let clear = as-ok c.in-Ok.is (ignores-as c.ignore-cleared.ensures c.hub_change_port_feature.ensures) in
+returns-then-has c =
+    let clear = as-ok c.in-Ok.is (ignores-as c.ignore-cleared.ensures c.hub_change_port_feature.ensures) in
     let power = ignores-as c.ignore.ensures c.hub_power_on.ensures in
     done-if (sym c.has.ensures ∙ c.if-has.true) (next clear power)
 

@@ -11,13 +11,15 @@ use Rattle.usb_check.proofs.start_check.Goals as goal
 
 pub returns-in_default : goal.returns-in_default
 unfolding start_check port_status
-returns-in_default c = let ended = not-ok _ c.in_default.not-Ok in
+returns-in_default c =
+    let ended = not-ok _ c.in_default.not-Ok in
     let ends = got_number _ _ _ _ (next-ended _ _ c.hub_port_get_status-read.ensures ended) in
     record { ends = ends; so = otherwise (Unit {0}) _ ended refl }
 
 pub returns-in_default-answer : goal.returns-in_default-answer
 unfolding start_check port_status
-returns-in_default-answer c = let ended = not-ok _ c.in_default-answer.not-Ok in
+returns-in_default-answer c =
+    let ended = not-ok _ c.in_default-answer.not-Ok in
     let read = as-ok c.in-Ok.is c.hub_port_get_status-read.ensures in
     let clears = got _ _ _ (next-ended _ _ c.clear_changes-cleared.ensures ended) in
     record {
@@ -32,7 +34,8 @@ pub dropped-dropped-requires : goal.dropped-dropped-requires
 dropped-dropped-requires c = c.requires.2
 
 pub returns : goal.returns
-returns c = let ok = c.in-Ok-answer.is in
+returns c =
+    let ok = c.in-Ok-answer.is in
     let read = as-ok c.in-Ok.is c.hub_port_get_status-read.ensures in
     let cleared = as-ok ok c.clear_changes-cleared.ensures in
     let dropped = rw (c.load_hub.ensures, child-at _ _ _ c.requires.2) at c.dropped-dropped.ensures in

@@ -11,19 +11,22 @@ use Rattle.usb_child.proofs.new_child.Goals as goal
 
 pub returns-in_default : goal.returns-in_default
 unfolding new_child
-returns-in_default c = let ended = not-ok _ c.in_default.not-Ok in
+returns-in_default c =
+    let ended = not-ok _ c.in_default.not-Ok in
     let ends = next-ended _ _ c.reset_changed-reset.ensures ended in
     rw c.no_child.ensures (record { ends = ends; so = otherwise (place_count < place_count) _ ended refl })
 
 pub returns-then-place-eq-PLACES : goal.returns-then-place-eq-PLACES
 unfolding new_child NotOk
-returns-then-place-eq-PLACES c = let reset = as-ok c.in-Ok.is c.reset_changed-reset.ensures in
+returns-then-place-eq-PLACES c =
+    let reset = as-ok c.in-Ok.is c.reset_changed-reset.ensures in
     let none = full _ _ c.if-place-eq-PLACES.true (c.usb_allocate_device-place.ensures.0 _ _ _ reset.fit) in
     rw c.no_child-then-place-eq-PLACES.ensures (record { ends = next reset (bound-ended _ _ none tt); so = refl })
 
 pub returns-in_default-answer : goal.returns-in_default-answer
 unfolding new_child
-returns-in_default-answer c = let reset = as-ok c.in-Ok.is c.reset_changed-reset.ensures in
+returns-in_default-answer c =
+    let reset = as-ok c.in-Ok.is c.reset_changed-reset.ensures in
     let place = taken _ _ c.if-place-eq-PLACES.false (c.usb_allocate_device-place.ensures.0 _ _ _ reset.fit) in
     let ended = not-ok _ c.in_default-answer.not-Ok in
     let ends = next reset (bound _ place (next-ended _ _ c.place_child-placed.ensures ended)) in
@@ -31,7 +34,8 @@ returns-in_default-answer c = let reset = as-ok c.in-Ok.is c.reset_changed-reset
 
 pub returns : goal.returns
 unfolding new_child
-returns c = let reset = as-ok c.in-Ok.is c.reset_changed-reset.ensures in
+returns c =
+    let reset = as-ok c.in-Ok.is c.reset_changed-reset.ensures in
     let free = c.if-place-eq-PLACES.false in
     let place = taken _ _ free (c.usb_allocate_device-place.ensures.0 _ _ _ reset.fit) in
     let ok3 = c.in-Ok-answer.is in

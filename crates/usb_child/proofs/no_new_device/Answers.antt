@@ -9,11 +9,13 @@ returns-then-child_of-ne0 c = has-child _ _ (rw c.child_of.ensures at c.if-child
 
 pub returns-then-has : goal.returns-then-has
 unfolding bit
-returns-then-has c = let none = rw c.child_of.ensures at c.if-child_of-ne0.false in
+returns-then-has c =
+    let none = rw c.child_of.ensures at c.if-child_of-ne0.false in
     connected _ _ none (rw c.status_of-status.ensures at (sym c.has.ensures ∙ c.if-has.true))
 
 pub returns : goal.returns
 unfolding bit
-returns c = let none = rw c.child_of.ensures at c.if-child_of-ne0.false in
+returns c =
+    let none = rw c.child_of.ensures at c.if-child_of-ne0.false in
     let status = c.status_of-status.ensures in
     disconnected _ _ none (rw status at (sym c.has.ensures ∙ c.if-has.false)) _ (rw status at c.has-2.ensures)

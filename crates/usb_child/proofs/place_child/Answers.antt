@@ -6,12 +6,14 @@ use Rattle.usb_child.proofs.place_child.Goals as goal
 
 pub returns-in_default : goal.returns-in_default
 unfolding place_child
-returns-in_default c = let ended = next-ended _ _ c.hub_port_get_status-read.ensures (not-ok _ c.in_default.not-Ok) in
+returns-in_default c =
+    let ended = next-ended _ _ c.hub_port_get_status-read.ensures (not-ok _ c.in_default.not-Ok) in
     put_then _ _ _ _ c.set_byte.ensures ended
 
 pub returns : goal.returns
 unfolding place_child
-returns c = let ok = c.in-Ok.is in
+returns c =
+    let ok = c.in-Ok.is in
     let read = as-ok ok c.hub_port_get_status-read.ensures in
     let last = port-put _ _ _ _ c.set_port.ensures read.fit in
     rw ok (put_then _ _ _ _ c.set_byte.ensures (next read last))

@@ -14,13 +14,15 @@ returns-in_default c = next-ended _ _ c.start_change-started.ensures (not-ok _ c
 
 pub returns-then-no_new_device : goal.returns-then-no_new_device
 unfolding reset_changed port_status
-returns-then-no_new_device c = let none = tested _ _ _ c.requires.2 c.load_hub.ensures c.no_new_device.ensures c.if-no_new_device.true in
+returns-then-no_new_device c =
+    let none = tested _ _ _ c.requires.2 c.load_hub.ensures c.no_new_device.ensures c.if-no_new_device.true in
     let started = as-ok c.in-Ok.is c.start_change-started.ensures in
     next started (got_number _ _ _ _ (got _ _ _ (thrown _ _ _ none started.fit)))
 
 pub returns-in_default-answer : goal.returns-in_default-answer
 unfolding reset_changed port_status
-returns-in_default-answer c = let new = tested _ _ _ c.requires.2 c.load_hub.ensures c.no_new_device.ensures c.if-no_new_device.false in
+returns-in_default-answer c =
+    let new = tested _ _ _ c.requires.2 c.load_hub.ensures c.no_new_device.ensures c.if-no_new_device.false in
     let started = as-ok c.in-Ok.is c.start_change-started.ensures in
     let ended = next-ended _ _ (logged c.micro_delay-waited.ensures started.fit) (not-ok _ c.in_default-answer.not-Ok) in
     next started (got_number _ _ _ _ (got _ _ _ (unless _ new ended)))
@@ -30,7 +32,8 @@ hub_port_reset2-requires c = (fit-after c.micro_delay-waited.ensures c.start_cha
 
 pub returns : goal.returns
 unfolding reset_changed port_status
-returns c = let new = tested _ _ _ c.requires.2 c.load_hub.ensures c.no_new_device.ensures c.if-no_new_device.false in
+returns c =
+    let new = tested _ _ _ c.requires.2 c.load_hub.ensures c.no_new_device.ensures c.if-no_new_device.false in
     let started = as-ok c.in-Ok.is c.start_change-started.ensures in
     let waited = as-ok c.in-Ok-answer.is (logged c.micro_delay-waited.ensures started.fit) in
     next started (got_number _ _ _ _ (got _ _ _ (unless _ new (next waited c.hub_port_reset2.ensures))))

@@ -12,12 +12,14 @@ returns-in_default c = next-ended _ _ (logged c.dwc_update_host_frame_interval-f
 
 pub returns-in_default-answer : goal.returns-in_default-answer
 unfolding start_change
-returns-in_default-answer c = let framed = as-ok c.in-Ok.is (logged c.dwc_update_host_frame_interval-framed.ensures c.requires.0) in
+returns-in_default-answer c =
+    let framed = as-ok c.in-Ok.is (logged c.dwc_update_host_frame_interval-framed.ensures c.requires.0) in
     next framed (next-ended _ _ c.hub_port_get_status-first.ensures (not-ok _ c.in_default-answer.not-Ok))
 
 pub returns-in_default-answer-2 : goal.returns-in_default-answer-2
 unfolding start_change
-returns-in_default-answer-2 c = let framed = as-ok c.in-Ok.is (logged c.dwc_update_host_frame_interval-framed.ensures c.requires.0) in
+returns-in_default-answer-2 c =
+    let framed = as-ok c.in-Ok.is (logged c.dwc_update_host_frame_interval-framed.ensures c.requires.0) in
     let read = as-ok c.in-Ok-answer.is c.hub_port_get_status-first.ensures in
     next framed (next read (next-ended _ _ c.hub_change_port_feature-cleared.ensures (not-ok _ c.in_default-answer-2.not-Ok)))
 
@@ -26,7 +28,8 @@ hub_port_get_status-requires c = (c.hub_change_port_feature-cleared.ensures.fit,
 
 pub returns : goal.returns
 unfolding start_change
-returns c = let framed = as-ok c.in-Ok.is (logged c.dwc_update_host_frame_interval-framed.ensures c.requires.0) in
+returns c =
+    let framed = as-ok c.in-Ok.is (logged c.dwc_update_host_frame_interval-framed.ensures c.requires.0) in
     let read = as-ok c.in-Ok-answer.is c.hub_port_get_status-first.ensures in
     let cleared = as-ok c.in-Ok-answer-2.is c.hub_change_port_feature-cleared.ensures in
     next framed (next read (next cleared c.hub_port_get_status.ensures))

@@ -9,10 +9,12 @@ hub_port_reset2-requires c = (search rules, search rules, rw c.in-At.is at c.por
 
 pub returns-in-Nowhere : goal.returns-in-Nowhere
 unfolding hub_child_reset NotOk
-returns-in-Nowhere c = let ends = c.port_of_child-found.ensures.ends _ _ _ c.requires.0 in
+returns-in-Nowhere c =
+    let ends = c.port_of_child-found.ensures.ends _ _ _ c.requires.0 in
     bound-ended _ _ (rw c.in-Nowhere.is at ends) tt
 
 pub returns-in-At : goal.returns-in-At
 unfolding hub_child_reset
-returns-in-At c = let ends = c.port_of_child-found.ensures.ends _ _ _ c.requires.0 in
+returns-in-At c =
+    let ends = c.port_of_child-found.ensures.ends _ _ _ c.requires.0 in
     bound _ (rw c.in-At.is at ends) c.hub_port_reset2.ensures

@@ -13,7 +13,8 @@ returns-then-byte_at-ne-ADDRESSED c = got-as _ _ _ c.byte_at.ensures (thrown _ _
 
 pub returns-in_default : goal.returns-in_default
 unfolding usb_set_configure
-returns-in_default c = let sent = rw c.device_request-request.ensures at c.control-sent.ensures.ends in
+returns-in_default c =
+    let sent = rw c.device_request-request.ensures at c.control-sent.ensures.ends in
     got-as _ _ _ c.byte_at.ensures
     (unless _ (ap not (eq-eqb _ _ c.if-byte_at-ne-ADDRESSED.false)) (next-ended _ _ sent (not-ok _ c.in_default.not-Ok)))
 
@@ -22,7 +23,8 @@ set_byte-requires-2 c = record { whole = search rules; inside = c.requires.1; ro
 
 pub returns : goal.returns
 unfolding usb_set_configure
-returns c = let sent = rw (c.in-Ok.is, c.device_request-request.ensures) at c.control-sent.ensures.ends in
+returns c =
+    let sent = rw (c.in-Ok.is, c.device_request-request.ensures) at c.control-sent.ensures.ends in
     let first = c.set_byte.ensures in
     rw c.in-Ok.is
     (got-as _ _ _ c.byte_at.ensures

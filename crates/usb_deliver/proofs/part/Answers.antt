@@ -7,11 +7,13 @@ use Rattle.usb_deliver.proofs.Deliveries.{part-ended}
 use Rattle.usb_deliver.proofs.part.Goals as goal
 
 pub returns-in_default : goal.returns-in_default
-returns-in_default c = let args = c.args in
+returns-in_default c =
+    let args = c.args in
     part-ended args.transfer.step.answer (not-ok _ c.in_default.not-Ok) args.outcomes.now args.at.taken args.transfer.len
 
 pub delivered-requires : goal.delivered-requires
-delivered-requires c = let args = c.args in
+delivered-requires c =
+    let args = c.args in
     let there : args.at.taken + 4 + args.transfer.len ≤ length args.outcomes.now = rw c.in-Ok.is at c.requires in
     omega arith
 

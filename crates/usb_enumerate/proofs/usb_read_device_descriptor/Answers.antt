@@ -10,14 +10,16 @@ use Rattle.usb_enumerate.proofs.usb_read_device_descriptor.Goals as goal
 
 pub returns-then-speed-eq-HIGH : goal.returns-then-speed-eq-HIGH
 unfolding usb_read_device_descriptor first_size
-returns-then-speed-eq-HIGH c = let size = rw c.first_size.ensures at c.set_byte.ensures in
+returns-then-speed-eq-HIGH c =
+    let size = rw c.first_size.ensures at c.set_byte.ensures in
     let speed = c.byte_at-speed.ensures in
     got-as _ _ _ speed (put_then _ _ _ _ size
     (taken-if _ (eq-eqb _ _ c.if-speed-eq-HIGH.true) (dropped c.read_device_descriptor-read.ensures.ends)))
 
 pub returns-in_default : goal.returns-in_default
 unfolding usb_read_device_descriptor first_size
-returns-in_default c = let size = rw c.first_size.ensures at c.set_byte.ensures in
+returns-in_default c =
+    let size = rw c.first_size.ensures at c.set_byte.ensures in
     let speed = c.byte_at-speed.ensures in
     got-as _ _ _ speed
     (put_then _ _ _ _ size
@@ -26,7 +28,8 @@ returns-in_default c = let size = rw c.first_size.ensures at c.set_byte.ensures 
 
 pub returns-then-first-eq18 : goal.returns-then-first-eq18
 unfolding usb_read_device_descriptor first_size
-returns-then-first-eq18 c = let size = rw c.first_size.ensures at c.set_byte.ensures in
+returns-then-first-eq18 c =
+    let size = rw c.first_size.ensures at c.set_byte.ensures in
     let speed = c.byte_at-speed.ensures in
     let first = rw c.in-Ok.is at c.read_device_descriptor-first.ensures.ends in
     rw c.in-Ok.is
@@ -40,7 +43,8 @@ read_device_descriptor-second-requires c = (c.read_device_descriptor-first.ensur
 
 pub returns : goal.returns
 unfolding usb_read_device_descriptor first_size
-returns c = let size = rw c.first_size.ensures at c.set_byte.ensures in
+returns c =
+    let size = rw c.first_size.ensures at c.set_byte.ensures in
     let speed = c.byte_at-speed.ensures in
     let first = rw c.in-Ok.is at c.read_device_descriptor-first.ensures.ends in
     got-as _ _ _ speed

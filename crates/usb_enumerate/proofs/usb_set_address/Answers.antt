@@ -15,13 +15,15 @@ returns-then-byte_at-ne-DEFAULT c = got-as _ _ _ c.byte_at.ensures (thrown _ _ _
 
 pub returns-in_default : goal.returns-in_default
 unfolding usb_set_address
-returns-in_default c = let sent = rw c.device_request-request.ensures at c.usb_control_message-sent.ensures.ends in
+returns-in_default c =
+    let sent = rw c.device_request-request.ensures at c.usb_control_message-sent.ensures.ends in
     got-as _ _ _ c.byte_at.ensures
     (unless _ (ap not (eq-eqb _ _ c.if-byte_at-ne-DEFAULT.false)) (next-ended _ _ sent (not-ok _ c.in_default.not-Ok)))
 
 pub returns-in_default-answer : goal.returns-in_default-answer
 unfolding usb_set_address
-returns-in_default-answer c = let sent = rw (c.in-Ok.is, c.device_request-request.ensures) at c.usb_control_message-sent.ensures.ends in
+returns-in_default-answer c =
+    let sent = rw (c.in-Ok.is, c.device_request-request.ensures) at c.usb_control_message-sent.ensures.ends in
     got-as _ _ _ c.byte_at.ensures
     (unless _ (ap not (eq-eqb _ _ c.if-byte_at-ne-DEFAULT.false))
     (next sent (next-ended _ _ (logged c.micro_delay-waited.ensures sent.fit) (not-ok _ c.in_default-answer.not-Ok))))
@@ -34,7 +36,8 @@ set_byte-requires-2 c = record { whole = search rules; inside = c.requires.1; ro
 
 pub returns : goal.returns
 unfolding usb_set_address
-returns c = let sent = rw (c.in-Ok.is, c.device_request-request.ensures) at c.usb_control_message-sent.ensures.ends in
+returns c =
+    let sent = rw (c.in-Ok.is, c.device_request-request.ensures) at c.usb_control_message-sent.ensures.ends in
     let delay = logged (rw c.in-Ok-answer.is at c.micro_delay-waited.ensures) sent.fit in
     let first = c.set_byte.ensures in
     let last = put_last _ _ _ _ c.set_byte-2.ensures (put-bytes-fit _ _ _ _ first delay.fit) in

@@ -9,10 +9,12 @@ returns-then-byte_at-ne1 c = simp (ne_eqb _ _ (rw c.byte_at.ensures at c.if-byte
 
 pub returns-then-byte_at-lt128 : goal.returns-then-byte_at-lt128
 unfolding hub_endpoint
-returns-then-byte_at-lt128 c = let one = eq-eqb _ _ (rw c.byte_at.ensures at c.if-byte_at-ne1.false) in
+returns-then-byte_at-lt128 c =
+    let one = eq-eqb _ _ (rw c.byte_at.ensures at c.if-byte_at-ne1.false) in
     simp (one, lt-ltb _ _ (rw c.byte_at-2.ensures at c.if-byte_at-lt128.true))
 
 pub returns : goal.returns
 unfolding hub_endpoint
-returns c = let one = eq-eqb _ _ (rw c.byte_at.ensures at c.if-byte_at-ne1.false) in
+returns c =
+    let one = eq-eqb _ _ (rw c.byte_at.ensures at c.if-byte_at-ne1.false) in
     simp (one, le-ltb _ _ (rw c.byte_at-2.ensures at c.if-byte_at-lt128.false), c.byte_at-3.ensures)

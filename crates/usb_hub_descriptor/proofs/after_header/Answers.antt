@@ -11,7 +11,8 @@ pub returns-in_default : goal.returns-in_default
 returns-in_default c = λ m w d. bound-ended _ _ d (not-ok _ c.in_default.not-Ok)
 
 pub bounds-header-0 : goal.bounds-header-0
-bounds-header-0 c = let enough : 2 ≤ length c.args.header.now = rw c.in-Ok.is at c.requires.2 in
+bounds-header-0 c =
+    let enough : 2 ≤ length c.args.header.now = rw c.in-Ok.is at c.requires.2 in
     omega arith
 
 pub returns : goal.returns

@@ -4,13 +4,16 @@ use Rattle.usb_message.proofs.Messages.{none-enough, read-ended, read_short, rea
 use Rattle.usb_message.proofs.read.Goals as goal
 
 pub returns-in_default : goal.returns-in_default
-returns-in_default c = let ended = not-ok _ c.in_default.not-Ok in
+returns-in_default c =
+    let ended = not-ok _ c.in_default.not-Ok in
     (read-ended _ _ _ _ _ _ _ _ c.control-transfer.ensures ended, none-enough _ _ _ ended)
 
 pub returns-then-transfer-minimum : goal.returns-then-transfer-minimum
-returns-then-transfer-minimum c = let done = rw c.in-Ok.is at c.control-transfer.ensures in
+returns-then-transfer-minimum c =
+    let done = rw c.in-Ok.is at c.control-transfer.ensures in
     rw c.handed_back.ensures (read_short _ _ _ _ _ _ _ done c.if-transfer-minimum.true, tt)
 
 pub returns : goal.returns
-returns c = let done = rw c.in-Ok.is at c.control-transfer.ensures in
+returns c =
+    let done = rw c.in-Ok.is at c.control-transfer.ensures in
     rw c.in-Ok.is (read-enough _ _ _ _ _ _ _ done c.if-transfer-minimum.false, c.if-transfer-minimum.false)

@@ -5,7 +5,8 @@ use Rattle.usb_message.proofs.Messages.{received_none, received}
 use Rattle.usb_message.proofs.receive.Goals as goal
 
 pub take_outcome-requires : goal.take_outcome-requires
-take_outcome-requires c = let whole = takes-left c.args.outcomes.now c.args.at.taken _ _ c.read_outcome-outcome.ensures c.in-Whole.is in
+take_outcome-requires c =
+    let whole = takes-left c.args.outcomes.now c.args.at.taken _ _ c.read_outcome-outcome.ensures c.in-Whole.is in
     (search rules, search rules, search rules, whole.good)
 
 pub returns-in-Missing : goal.returns-in-Missing

@@ -7,9 +7,11 @@ pub delivered-requires : goal.delivered-requires
 delivered-requires c = data-inside _ _ _ _ _ c.lesser-n.ensures c.requires.3.inside c.requires.2
 
 pub keep-requires : goal.keep-requires
-keep-requires c = let small = data-small c.args.outcomes.now c.args.at.taken _ _ _ c.lesser-n.ensures c.requires.3.small in
+keep-requires c =
+    let small = data-small c.args.outcomes.now c.args.at.taken _ _ _ c.lesser-n.ensures c.requires.3.small in
     (search rules, search rules, c.requires.3.error, rw c.delivered.ensures small)
 
 pub returns : goal.returns
-returns c = let n = c.lesser-n.ensures in
+returns c =
+    let n = c.lesser-n.ensures in
     (rw (c.delivered.ensures, n) at c.keep.ensures, rw (c.result_of.ensures, n) at c.handed_back.ensures)

@@ -8,5 +8,6 @@ pub returns-in_default : goal.returns-in_default
 returns-in_default c = rw c.handed_back.ensures (message-unsent _ _ _ _ _ _ _ _ _ _ _ c.send_request-sent.ensures (not-ok _ c.in_default.not-Ok) c.requires.0)
 
 pub returns : goal.returns
-returns c = let wrote = rw c.in-Ok.is at c.send_request-sent.ensures in
+returns c =
+    let wrote = rw c.in-Ok.is at c.send_request-sent.ensures in
     message-sent _ _ _ _ _ _ _ _ _ _ wrote c.requires.0 _ _ _ _ (c.receive.ensures _ (fit-after wrote c.requires.0))

@@ -17,6 +17,9 @@ pub returns-then-byte_at-gt10 : goal.returns-then-byte_at-gt10
 returns-then-byte_at-gt10 c = fields-max _ _ _ c.byte_at-3.ensures c.if-byte_at-gt10.true
 
 pub returns : goal.returns
-returns c = fields-error _ _ _ _ _ _ _ _ (elim c.if-number-ne0.branch [ then-number-ne0+else-number-p w ↦ inr (inl w.if-number-p.false) | else-number-ne0 w ↦ inl w.if-number-ne0.false ]) c.if-byte_at-gt2.false
+returns c =
+    fields-error _ _ _ _ _ _ _ _
+    (elim c.if-number-ne0.branch [ then-number-ne0+else-number-p w ↦ inr (inl w.if-number-p.false) | else-number-ne0 w ↦ inl w.if-number-ne0.false ])
+    c.if-byte_at-gt2.false
     c.if-byte_at-gt4.false c.if-byte_at-gt10.false c.count_at-number.ensures c.byte_at.ensures
     c.byte_at-2.ensures c.byte_at-3.ensures c.u32_at.ensures c.error_listed.ensures

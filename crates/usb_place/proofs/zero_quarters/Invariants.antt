@@ -9,7 +9,8 @@ use Rattle.usb_place.proofs.Steps.{zero_parts}
 use Rattle.usb_place.proofs.zero_quarters.Given as goal
 
 abbrev pub invariant-loop-i : goal.invariant-loop-i
-invariant-loop-i l = (l.i ≤ l.quarter) × (every (zero_parts l.s l.quarter) 0 l.quarter ≡ (eqb l.all 0 && every (zero_parts l.s l.quarter) l.i (l.quarter - l.i)))
+invariant-loop-i l =
+    (l.i ≤ l.quarter) × (every (zero_parts l.s l.quarter) 0 l.quarter ≡ (eqb l.all 0 && every (zero_parts l.s l.quarter) l.i (l.quarter - l.i)))
 
 abbrev pub decreases-loop-i : goal.decreases-loop-i
 decreases-loop-i l = l.quarter - l.i

@@ -13,5 +13,6 @@ hub_port_get_status-requires c = (fit-after c.micro_delay-waited.ensures c.requi
 
 pub returns : goal.returns
 unfolding delayed_status
-returns c = let delay = as-ok c.in-Ok.is (logged c.micro_delay-waited.ensures c.requires.0) in
+returns c =
+    let delay = as-ok c.in-Ok.is (logged c.micro_delay-waited.ensures c.requires.0) in
     next delay c.hub_port_get_status.ensures

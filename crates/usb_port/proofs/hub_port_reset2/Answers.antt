@@ -17,7 +17,8 @@ returns-in_default c = grouped _ _ _ (next-ended _ _ c.reset_port-reset.ensures 
 
 pub returns-in_default-answer : goal.returns-in_default-answer
 unfolding hub_port_reset2 reset_port
-returns-in_default-answer c = let reset = as-ok c.in-Ok.is c.reset_port-reset.ensures in
+returns-in_default-answer c =
+    let reset = as-ok c.in-Ok.is c.reset_port-reset.ensures in
     grouped _ _ _ (next reset (bound-ended _ _ c.await_reset-reads.ensures.ends (not-ok _ c.in_default-answer.not-Ok)))
 
 pub hub_change_port_feature-last-requires : goal.hub_change_port_feature-last-requires
@@ -25,14 +26,16 @@ hub_change_port_feature-last-requires c = (c.await_reset-reads.ensures.ends.fit,
 
 pub returns-in_default-answer-2 : goal.returns-in_default-answer-2
 unfolding hub_port_reset2 reset_port
-returns-in_default-answer-2 c = let reset = as-ok c.in-Ok.is c.reset_port-reset.ensures in
+returns-in_default-answer-2 c =
+    let reset = as-ok c.in-Ok.is c.reset_port-reset.ensures in
     let reads = as-ok c.in-Ok-answer.is c.await_reset-reads.ensures.ends in
     let ended = next-ended _ _ c.hub_change_port_feature-last.ensures (not-ok _ c.in_default-answer-2.not-Ok) in
     grouped _ _ _ (next reset (bound _ reads ended))
 
 pub returns-then-reads : goal.returns-then-reads
 unfolding hub_port_reset2 reset_port
-returns-then-reads c = let reset = as-ok c.in-Ok.is c.reset_port-reset.ensures in
+returns-then-reads c =
+    let reset = as-ok c.in-Ok.is c.reset_port-reset.ensures in
     let reads = as-ok c.in-Ok-answer.is c.await_reset-reads.ensures.ends in
     let clear = as-ok c.in-Ok-answer-2.is c.hub_change_port_feature-last.ensures in
     let delay = logged c.micro_delay.ensures clear.fit in
@@ -40,7 +43,8 @@ returns-then-reads c = let reset = as-ok c.in-Ok.is c.reset_port-reset.ensures i
 
 pub returns : goal.returns
 unfolding hub_port_reset2 reset_port
-returns c = let reset = as-ok c.in-Ok.is c.reset_port-reset.ensures in
+returns c =
+    let reset = as-ok c.in-Ok.is c.reset_port-reset.ensures in
     let reads = as-ok c.in-Ok-answer.is c.await_reset-reads.ensures.ends in
     let clear = as-ok c.in-Ok-answer-2.is c.hub_change_port_feature-last.ensures in
     grouped _ _ _ (next reset (bound _ reads (next clear (thrown _ _ _ (ap not c.if-reads.false) clear.fit))))

@@ -7,14 +7,17 @@ use Rattle.usb_port.proofs.reset_port.Goals as goal
 
 pub returns-in_default : goal.returns-in_default
 unfolding reset_port
-returns-in_default c = let clear = ignores-as c.ignore-cleared.ensures c.hub_change_port_feature.ensures in
+returns-in_default c =
+    let clear = ignores-as c.ignore-cleared.ensures c.hub_change_port_feature.ensures in
     next-ended _ _ clear (not-ok _ c.in_default.not-Ok)
 
 pub hub_change_port_feature-requires-2 : goal.hub_change_port_feature-requires-2
-hub_change_port_feature-requires-2 c = let clear = ignores-as c.ignore-cleared.ensures c.hub_change_port_feature.ensures in
+hub_change_port_feature-requires-2 c =
+    let clear = ignores-as c.ignore-cleared.ensures c.hub_change_port_feature.ensures in
     (clear.fit, c.requires.1, search rules)
 
 pub returns : goal.returns
 unfolding reset_port
-returns c = let clear = ignores-as c.ignore-cleared.ensures c.hub_change_port_feature.ensures in
+returns c =
+    let clear = ignores-as c.ignore-cleared.ensures c.hub_change_port_feature.ensures in
     next (as-ok c.in-Ok.is clear) c.hub_change_port_feature-2.ensures

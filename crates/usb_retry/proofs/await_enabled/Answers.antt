@@ -12,7 +12,8 @@ pub delayed_status-read-requires : goal.delayed_status-read-requires
 delayed_status-read-requires c = (c.loop-left.invariant.fit, c.requires.1, c.requires.2)
 
 pub returns-in_default : goal.returns-in_default
-returns-in_default c = let ended = not-ok _ c.in_default.not-Ok in
+returns-in_default c =
+    let ended = not-ok _ c.in_default.not-Ok in
     let turns = enabled-ended _ _ _ c.loop-left-test.true c.delayed_status-read.ensures ended in
     record { ends = ends_with c.loop-left.invariant turns; so = otherwise (Unit {0}) _ ended refl }
 
@@ -20,16 +21,19 @@ pub port_status-requires : goal.port_status-requires
 port_status-requires c = (c.delayed_status-read.ensures.fit.whole, c.requires.1, c.requires.2)
 
 pub returns-then-reset_or_enabled : goal.returns-then-reset_or_enabled
-returns-then-reset_or_enabled c = let ok = c.in-Ok.is in
+returns-then-reset_or_enabled c =
+    let ok = c.in-Ok.is in
     let test = rw c.port_status.ensures at (sym c.reset_or_enabled.ensures ∙ c.if-reset_or_enabled.true) in
     let turns = enabled-seen _ _ _ c.loop-left-test.true (as-ok ok c.delayed_status-read.ensures) test in
     rw ok (record { ends = ends_with c.loop-left.invariant turns; so = tt })
 
 pub loop-left-preserved : goal.loop-left-preserved
-loop-left-preserved c = let done = as-ok c.in-Ok.is c.delayed_status-read.ensures in
+loop-left-preserved c =
+    let done = as-ok c.in-Ok.is c.delayed_status-read.ensures in
     let test = rw c.port_status.ensures at (sym c.reset_or_enabled.ensures ∙ c.if-reset_or_enabled.false) in
     enabled-goes _ _ _ c.loop-left-test.true c.loop-left.invariant done test c.delayed_status-read.auto.store c.delayed_status-read.auto.log
 
 pub returns : goal.returns
-returns c = let inv = c.loop-left.invariant in
+returns c =
+    let inv = c.loop-left.invariant in
     record { ends = ends_with inv (enabled-none _ _ _ (omega (arith, c.loop-left-test.false)) inv.fit); so = tt }

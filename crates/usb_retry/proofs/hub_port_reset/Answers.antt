@@ -13,17 +13,20 @@ returns-in_default c = next-ended _ _ c.reset_tries-tried.ensures (not-ok _ c.in
 
 pub returns-in_default-answer : goal.returns-in_default-answer
 unfolding hub_port_reset
-returns-in_default-answer c = let tries = as-ok c.in-Ok.is c.reset_tries-tried.ensures in
+returns-in_default-answer c =
+    let tries = as-ok c.in-Ok.is c.reset_tries-tried.ensures in
     let first = ignores-as c.ignore-first.ensures c.hub_change_port_feature.ensures in
     next tries (next-ended _ _ first (not-ok _ c.in_default-answer.not-Ok))
 
 pub hub_change_port_feature-requires-2 : goal.hub_change_port_feature-requires-2
-hub_change_port_feature-requires-2 c = let first = ignores-as c.ignore-first.ensures c.hub_change_port_feature.ensures in
+hub_change_port_feature-requires-2 c =
+    let first = ignores-as c.ignore-first.ensures c.hub_change_port_feature.ensures in
     (first.fit, c.requires.1, omega (arith, c.requires.2))
 
 pub returns : goal.returns
 unfolding hub_port_reset
-returns c = let tries = as-ok c.in-Ok.is c.reset_tries-tried.ensures in
+returns c =
+    let tries = as-ok c.in-Ok.is c.reset_tries-tried.ensures in
     let first = ignores-as c.ignore-first.ensures c.hub_change_port_feature.ensures in
     let second = ignores-as c.ignore.ensures c.hub_change_port_feature-2.ensures in
     next tries (next (as-ok c.in-Ok-answer.is first) second)

@@ -10,13 +10,15 @@ use Rattle.usb_retry.proofs.try_reset.Goals as goal
 
 pub returns-in_default : goal.returns-in_default
 unfolding try_reset
-returns-in_default c = let ended = not-ok _ c.in_default.not-Ok in
+returns-in_default c =
+    let ended = not-ok _ c.in_default.not-Ok in
     let ends = next-ended _ _ c.hub_change_port_feature-reset.ensures ended in
     record { ends = ends; so = otherwise (Unit {0}) _ ended refl }
 
 pub returns-in_default-answer : goal.returns-in_default-answer
 unfolding try_reset
-returns-in_default-answer c = let set = as-ok c.in-Ok.is c.hub_change_port_feature-reset.ensures in
+returns-in_default-answer c =
+    let set = as-ok c.in-Ok.is c.hub_change_port_feature-reset.ensures in
     let reads = c.await_enabled-reads.ensures in
     record { ends = next set (bound-ended _ _ reads.ends (not-ok _ c.in_default-answer.not-Ok)); so = reads.so }
 
@@ -24,20 +26,23 @@ pub port_status-status-requires : goal.port_status-status-requires
 port_status-status-requires c = (c.await_enabled-reads.ensures.ends.fit.whole, c.requires.1, c.requires.2)
 
 pub returns-then-lost : goal.returns-then-lost
-returns-then-lost c = let set = as-ok c.in-Ok.is c.hub_change_port_feature-reset.ensures in
+returns-then-lost c =
+    let set = as-ok c.in-Ok.is c.hub_change_port_feature-reset.ensures in
     let reads = as-ok c.in-Ok-answer.is c.await_enabled-reads.ensures.ends in
     let gone = rw c.port_status-status.ensures at (sym c.lost.ensures ∙ c.if-lost.true) in
     record { ends = try-lost _ _ set _ reads c.if-reads.true gone; so = refl }
 
 pub returns-then-reads : goal.returns-then-reads
 unfolding bit
-returns-then-reads c = let set = as-ok c.in-Ok.is c.hub_change_port_feature-reset.ensures in
+returns-then-reads c =
+    let set = as-ok c.in-Ok.is c.hub_change_port_feature-reset.ensures in
     let reads = as-ok c.in-Ok-answer.is c.await_enabled-reads.ensures.ends in
     let there = rw c.port_status-status.ensures at (sym c.lost.ensures ∙ c.if-lost.false) in
     let enabled = rw c.port_status-status.ensures at c.has-seen.ensures in
     rw c.in-Ok-answer.is (record { ends = try-kept _ _ set _ reads c.if-reads.true there _ enabled; so = tt })
 
 pub returns : goal.returns
-returns c = let set = as-ok c.in-Ok.is c.hub_change_port_feature-reset.ensures in
+returns c =
+    let set = as-ok c.in-Ok.is c.hub_change_port_feature-reset.ensures in
     let reads = as-ok c.in-Ok-answer.is c.await_enabled-reads.ensures.ends in
     rw c.in-Ok-answer.is (record { ends = try-unseen _ _ set _ reads c.if-reads.false; so = tt })

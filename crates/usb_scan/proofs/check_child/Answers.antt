@@ -14,11 +14,14 @@ returns-in_default c n h = next-ended _ _ (c.hub_check_connection-checked.ensure
 
 pub returns-then-wide-child : goal.returns-then-wide-child
 unfolding check_child throw
-returns-then-wide-child c n h = let check = as-ok c.in-Ok.is (c.hub_check_connection-checked.ensures n h) in
-    next check (got-as _ _ _ ((c.wide.ensures.0 ∙ c.port_child.ensures)) (done-if (ap not (ne_eqb _ _ c.if-wide-child.true)) (record { is = refl; fit = check.fit })))
+returns-then-wide-child c n h =
+    let check = as-ok c.in-Ok.is (c.hub_check_connection-checked.ensures n h) in
+    next check (got-as _ _ _ (c.wide.ensures.0 ∙ c.port_child.ensures)
+    (done-if (ap not (ne_eqb _ _ c.if-wide-child.true)) (record { is = refl; fit = check.fit })))
 
 pub returns : goal.returns
 unfolding check_child
-returns c n h = let ok = c.in-Ok.is in
+returns c n h =
+    let ok = c.in-Ok.is in
     let check = as-ok ok (c.hub_check_connection-checked.ensures n h) in
-    rw ok (next check (got-as _ _ _ ((c.wide.ensures.0 ∙ c.port_child.ensures)) (done-unless _ (ap not (eq-eqb _ _ c.if-wide-child.false)) check.fit)))
+    rw ok (next check (got-as _ _ _ (c.wide.ensures.0 ∙ c.port_child.ensures) (done-unless _ (ap not (eq-eqb _ _ c.if-wide-child.false)) check.fit)))

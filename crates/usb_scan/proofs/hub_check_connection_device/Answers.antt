@@ -6,11 +6,13 @@ use Rattle.usb_scan.specs.Parts.{check_child}
 use Rattle.usb_scan.proofs.hub_check_connection_device.Goals as goal
 
 pub port_of_child-found-requires : goal.port_of_child-found-requires
-port_of_child-found-requires c = let pre = c.requires in
+port_of_child-found-requires c =
+    let pre = c.requires in
     (pre.0.fit.whole, pre.0.inside, pre.1, pre.0.good.most _)
 
 pub check_child-requires : goal.check_child-requires
-check_child-requires c = let pre = c.requires in
+check_child-requires c =
+    let pre = c.requires in
     (pre.0, pre.1, rw c.in-At.is at c.port_of_child-found.ensures.port)
 
 pub returns-in-Nowhere : goal.returns-in-Nowhere

@@ -7,15 +7,18 @@ use Rattle.usb_sound.proofs.Decides.{zeros-past}
 use Rattle.usb_sound.proofs.copy_store.Goals as goal
 
 pub slice_bounds-memory_copy-end : goal.slice_bounds-memory_copy-end
-slice_bounds-memory_copy-end c = let long = c.requires.1.whole in
+slice_bounds-memory_copy-end c =
+    let long = c.requires.1.whole in
     simp length-take (omega arith)
 
 pub memory_copy-requires : goal.memory_copy-requires
-memory_copy-requires c = let pre = c.requires in
+memory_copy-requires c =
+    let pre = c.requires in
     simp length-take (omega (arith, pre.0))
 
 pub returns : goal.returns
-returns c = let first = c.first_unused-used in
+returns c =
+    let first = c.first_unused-used in
     copied c.args.new.now c.args.old.now (first.result * 1152) c.requires.0
     (omega (arith, first.ensures.1, c.requires.1.whole)) (rw first.ensures.0 (zeros-past _ c.requires.1))
     c.memory_copy.ensures c.fill_zero.ensures

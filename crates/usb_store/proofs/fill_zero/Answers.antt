@@ -11,10 +11,12 @@ pub loop-i-init : goal.loop-i-init
 loop-i-init c = (omega arith, fill_none _ 0, refl)
 
 pub loop-i-preserved : goal.loop-i-preserved
-loop-i-preserved c = let head = c.loop-i in
+loop-i-preserved c =
+    let head = c.loop-i in
     (omega arith, rw head.invariant.1 (fill_more head.i 0 c.args.bytes.now (omega arith)), simp (length-set, head.invariant.2))
 
 pub returns : goal.returns
-returns c = let head = c.loop-i in
+returns c =
+    let head = c.loop-i in
     let all : head.i ≡ length c.args.bytes.now = omega arith in
     rw (head.invariant.1, all, drop-length) (append-nil _)

@@ -12,7 +12,8 @@ pub loop-j-init : goal.loop-j-init
 loop-j-init c = (search rules, sym (write-nil c.args.dst.now c.args.start), refl)
 
 pub loop-j-preserved : goal.loop-j-preserved
-loop-j-preserved c = let head = c.loop-j in
+loop-j-preserved c =
+    let head = c.loop-j in
     let args = c.args in (
       search rules,
       rw (head.invariant.1, add-one) (write-more args.dst.now args.start args.src.now head.j (omega arith)),
@@ -20,6 +21,7 @@ loop-j-preserved c = let head = c.loop-j in
     )
 
 pub returns : goal.returns
-returns c = let head = c.loop-j in
+returns c =
+    let head = c.loop-j in
     let all : head.j ≡ length c.args.src.now = omega arith in
     rw (head.invariant.1, all, take-length)

@@ -11,27 +11,29 @@ unfolding descriptor_of
 returns-then-cut_off c = cut_short _ _ _ _ _ (sym c.cut_off.ensures ∙ c.if-cut_off.true)
 
 pub returns-then-last : goal.returns-then-last
-returns-then-last c = endpoint-skipped _ _ _ c.requires.1 ((sym c.cut_off.ensures ∙ c.if-cut_off.false)) c.if-last.true
+returns-then-last c = endpoint-skipped _ _ _ c.requires.1 (sym c.cut_off.ensures ∙ c.if-cut_off.false) c.if-last.true
 
 pub returns-then-last-eq-MAX_INTERFACES : goal.returns-then-last-eq-MAX_INTERFACES
-returns-then-last-eq-MAX_INTERFACES c = no-interface _ _ _ c.requires.1 ((sym c.cut_off.ensures ∙ c.if-cut_off.false)) c.if-last.false c.if-last-eq-MAX_INTERFACES.true
+returns-then-last-eq-MAX_INTERFACES c =
+    no-interface _ _ _ c.requires.1 (sym c.cut_off.ensures ∙ c.if-cut_off.false) c.if-last.false c.if-last-eq-MAX_INTERFACES.true
 
 pub returns-then-endpoint_count-last : goal.returns-then-endpoint_count-last
-returns-then-endpoint_count-last c = count-reached _ _ _ c.requires.1 ((sym c.cut_off.ensures ∙ c.if-cut_off.false)) c.if-last.false
+returns-then-endpoint_count-last c = count-reached _ _ _ c.requires.1 (sym c.cut_off.ensures ∙ c.if-cut_off.false) c.if-last.false
     c.if-last-eq-MAX_INTERFACES.false _ c.endpoint_count.ensures c.if-endpoint_count-last.true
 
 pub returns-then-last-ge-MAX_ENDPOINTS : goal.returns-then-last-ge-MAX_ENDPOINTS
-returns-then-last-ge-MAX_ENDPOINTS c = seventeenth _ _ _ c.requires.1 ((sym c.cut_off.ensures ∙ c.if-cut_off.false)) c.if-last.false
+returns-then-last-ge-MAX_ENDPOINTS c = seventeenth _ _ _ c.requires.1 (sym c.cut_off.ensures ∙ c.if-cut_off.false) c.if-last.false
     c.if-last-eq-MAX_INTERFACES.false _ c.endpoint_count.ensures c.if-endpoint_count-last.false c.if-last-ge-MAX_ENDPOINTS.true
 
 pub slice_bounds-memory_copy-end : goal.slice_bounds-memory_copy-end
-slice_bounds-memory_copy-end c = let seven = whole_long _ _ ((sym c.cut_off.ensures ∙ c.if-cut_off.false)) in
+slice_bounds-memory_copy-end c =
+    let seven = whole_long _ _ (sym c.cut_off.ensures ∙ c.if-cut_off.false) in
     search rules
 
 pub memory_copy-requires : goal.memory_copy-requires
-memory_copy-requires c = omega (arith, whole_long _ _ ((sym c.cut_off.ensures ∙ c.if-cut_off.false)))
+memory_copy-requires c = omega (arith, whole_long _ _ (sym c.cut_off.ensures ∙ c.if-cut_off.false))
 
 pub returns : goal.returns
-returns c = endpoint-stored _ _ _ c.requires.1 ((sym c.cut_off.ensures ∙ c.if-cut_off.false)) c.if-last.false
+returns c = endpoint-stored _ _ _ c.requires.1 (sym c.cut_off.ensures ∙ c.if-cut_off.false) c.if-last.false
     c.if-last-eq-MAX_INTERFACES.false _ c.endpoint_count.ensures
     c.if-endpoint_count-last.false c.if-last-ge-MAX_ENDPOINTS.false _ c.memory_copy.ensures

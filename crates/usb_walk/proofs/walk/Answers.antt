@@ -17,11 +17,13 @@ pub returns-in-Refused : goal.returns-in-Refused
 returns-in-Refused c = refused _ _ _ _ _ c.loop-offset.invariant c.loop-offset-test.true _ _ c.descriptor-next.ensures _ c.in-Refused.is
 
 pub loop-offset-smaller : goal.loop-offset-smaller
-loop-offset-smaller c = let next = c.in-On.is in
+loop-offset-smaller c =
+    let next = c.in-On.is in
     omega (arith, moves _ _ _ _ _ c.loop-offset.invariant c.loop-offset-test.true _ _ c.descriptor-next.ensures _ next)
 
 pub loop-offset-preserved : goal.loop-offset-preserved
-loop-offset-preserved c = let next = c.in-On.is in
+loop-offset-preserved c =
+    let next = c.in-On.is in
     goes_on _ _ _ _ _ c.loop-offset.invariant c.loop-offset-test.true _ _ c.descriptor-next.ensures _ next _ c.wide-offset-in-On.ensures.0
 
 pub returns : goal.returns

@@ -7,6 +7,7 @@ use Rattle.recorded.proofs.Heads.{walk-by}
 use Rattle.recorded.proofs.head.walk_in.Goals as goal
 
 pub returns : goal.returns
-returns c = let n : to_z w32 (of_z w32 c.signed-answer.result) ≡ c.signed-answer.result = search rules in
+returns c =
+    let n : to_z w32 (of_z w32 c.signed-answer.result) ≡ c.signed-answer.result = search rules in
     walk-by _ _ _ _ _ _ c.u32_at-descriptors_len.ensures c.u32_at-record_len.ensures
     (n ∙ c.signed-answer.ensures) c.u32_at.ensures c.u32_at-record_sum.ensures

@@ -9,7 +9,8 @@ pub loop-k-init : goal.loop-k-init
 loop-k-init c = (omega arith, edit-start _ _ _, refl)
 
 pub loop-k-preserved : goal.loop-k-preserved
-loop-k-preserved c = let more = c.loop-k-test.true in
+loop-k-preserved c =
+    let more = c.loop-k-test.true in
     let inv = c.loop-k.invariant in
     let put = c.put.ensures in
     let again = edit-again _ _ _ _ _ _ _ more c.u32_at-offset.ensures put inv.1 in

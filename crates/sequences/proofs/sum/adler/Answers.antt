@@ -23,7 +23,8 @@ pub loop-i-smaller : goal.loop-i-smaller
 loop-i-smaller c = omega arith
 
 pub loop-i-preserved : goal.loop-i-preserved
-loop-i-preserved c = let head = c.loop-i in
+loop-i-preserved c =
+    let head = c.loop-i in
     (rw c.wide.ensures.0 (sym (adler-more _ _ _ _ c.loop-i-test.true) ∙ head.invariant.0), omega arith, omega arith, omega arith)
 
 pub overflow_mul-result : goal.overflow_mul-result

@@ -10,10 +10,12 @@ pub loop-place-init : goal.loop-place-init
 loop-place-init c = (search rules, refl)
 
 pub returns-then-byte_at-eq0 : goal.returns-then-byte_at-eq0
-returns-then-byte_at-eq0 c = (sym (unused_found _ _ c.loop-place-test.true (sym c.byte_at.ensures ∙ c.if-byte_at-eq0.true)) ∙ c.loop-place.invariant.1, search rules)
+returns-then-byte_at-eq0 c =
+    (sym (unused_found _ _ c.loop-place-test.true (sym c.byte_at.ensures ∙ c.if-byte_at-eq0.true)) ∙ c.loop-place.invariant.1, search rules)
 
 pub loop-place-preserved : goal.loop-place-preserved
-loop-place-preserved c = (search rules, sym (unused-next _ _ c.loop-place-test.true (λ z. c.if-byte_at-eq0.false (c.byte_at.ensures ∙ z))) ∙ c.loop-place.invariant.1)
+loop-place-preserved c =
+    (search rules, sym (unused-next _ _ c.loop-place-test.true (λ z. c.if-byte_at-eq0.false (c.byte_at.ensures ∙ z))) ∙ c.loop-place.invariant.1)
 
 pub returns : goal.returns
 returns c = (sym (unused-end _ c.loop-place.place (omega arith)) ∙ c.loop-place.invariant.1, search rules)

@@ -19,7 +19,8 @@ pub bounds-bytes-first : goal.bounds-bytes-first
 bounds-bytes-first c = omega (arith, mul-le-mul_right c.args.step c.loop-i.invariant.0)
 
 pub loop-i-preserved : goal.loop-i-preserved
-loop-i-preserved c = (search rules, sym (mark-turn c.loop-i.bytes _ _ _ c.loop-i.i c.loop-i-test.true) ∙ c.loop-i.invariant.1, simp (length-set, c.loop-i.invariant.2))
+loop-i-preserved c =
+    (search rules, sym (mark-turn c.loop-i.bytes _ _ _ c.loop-i.i c.loop-i-test.true) ∙ c.loop-i.invariant.1, simp (length-set, c.loop-i.invariant.2))
 
 pub returns : goal.returns
 returns c = sym (mark-end _ _ _ _ _ c.loop-i-test.false) ∙ c.loop-i.invariant.1

@@ -29,9 +29,10 @@ pub mark-requires : goal.mark-requires
 mark-requires c = simp length-set (omega arith)
 
 pub mark-requires-2 : goal.mark-requires-2
-mark-requires-2 c = let long = length-first _ ((c.fill_zero.ensures ∙ ap (λ (n : ℕ). replicate n 0) c.requires.0)) c.mark.ensures in
+mark-requires-2 c =
+    let long = length-first _ (c.fill_zero.ensures ∙ ap (λ (n : ℕ). replicate n 0) c.requires.0) c.mark.ensures in
     omega arith
 
 pub returns : goal.returns
-returns c = built c.args.place ((c.fill_zero.ensures ∙ ap (λ (n : ℕ). replicate n 0) c.requires.0))
+returns c = built c.args.place (c.fill_zero.ensures ∙ ap (λ (n : ℕ). replicate n 0) c.requires.0)
     c.mark.ensures c.mark-2.ensures

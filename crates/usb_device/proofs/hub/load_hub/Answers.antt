@@ -10,9 +10,11 @@ pub loop-port-init : goal.loop-port-init
 loop-port-init c = (search rules, filled_none _ refl, filled_none _ refl)
 
 pub loop-port-preserved : goal.loop-port-preserved
-loop-port-preserved c = let inside = c.loop-port-test.true in
+loop-port-preserved c =
+    let inside = c.loop-port-test.true in
     (search rules, filled_more _ inside c.u32_at.ensures c.loop-port.invariant.1, filled_more _ inside c.byte_at.ensures c.loop-port.invariant.2)
 
 pub returns : goal.returns
 unfolding hub_at
-returns c = rw (filled-all c.loop-port-test.false c.loop-port.invariant.1, filled-all c.loop-port-test.false c.loop-port.invariant.2, c.byte_at-max_children.ensures)
+returns c =
+    rw (filled-all c.loop-port-test.false c.loop-port.invariant.1, filled-all c.loop-port-test.false c.loop-port.invariant.2, c.byte_at-max_children.ensures)

@@ -6,7 +6,8 @@ use Rattle.usb_device.specs.Ports.{with_hub}
 use Rattle.usb_device.proofs.hub.store_hub.Goals as goal
 
 pub set_bytes-requires : goal.set_bytes-requires
-set_bytes-requires c = let ten : length c.args.hub.children ≡ 10 = search rules in
+set_bytes-requires c =
+    let ten : length c.args.hub.children ≡ 10 = search rules in
     search rules
 
 pub returns : goal.returns

@@ -12,7 +12,8 @@ pub loop-port-init : goal.loop-port-init
 loop-port-init c = (search rules, refl, refl)
 
 pub loop-port-preserved : goal.loop-port-preserved
-loop-port-preserved c = let inside : c.loop-port.port < length c.args.statuses = search rules in
+loop-port-preserved c =
+    let inside : c.loop-port.port < length c.args.statuses = search rules in
     (search rules, search rules, rw c.set_u32.ensures (sym (statuses-turn _ _ _ c.loop-port.port inside) ∙ c.loop-port.invariant.2))
 
 pub returns : goal.returns

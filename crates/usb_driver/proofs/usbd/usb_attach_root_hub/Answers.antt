@@ -14,17 +14,21 @@ unfolding usb_attach_root_hub NotOk
 returns-then-place-eq-PLACES c = bound-ended _ _ (full _ _ c.if-place-eq-PLACES.true (c.usb_allocate_device-place.ensures.0 _ _ _ c.requires.0)) tt
 
 pub usb_attach_device-requires : goal.usb_attach_device-requires
-usb_attach_device-requires c = ((root-born _ c.args.speed _ _ _ c.requires.1 (omega (arith, c.ranges.speed)) ((taken _ _ c.if-place-eq-PLACES.false (c.usb_allocate_device-place.ensures.0 _ _ _ c.requires.0)))
-    c.set_byte.ensures c.set_byte-2.ensures)).bus
+usb_attach_device-requires c =
+    (root-born _ c.args.speed _ _ _ c.requires.1 (omega (arith, c.ranges.speed))
+    (taken _ _ c.if-place-eq-PLACES.false (c.usb_allocate_device-place.ensures.0 _ _ _ c.requires.0))
+    c.set_byte.ensures c.set_byte-2.ensures).bus
 
 pub returns : goal.returns
 unfolding usb_attach_root_hub
-returns c = let most = free-most c.args.store.now in
+returns c =
+    let most = free-most c.args.store.now in
     let attached = c.usb_attach_device.ensures 32 (omega (
       arith,
-      ((root-born _ c.args.speed _ _ _ c.requires.1 (omega (arith, c.ranges.speed)) ((taken _ _ c.if-place-eq-PLACES.false (c.usb_allocate_device-place.ensures.0 _ _ _ c.requires.0)))
-          c.set_byte.ensures c.set_byte-2.ensures)).free,
+      (root-born _ c.args.speed _ _ _ c.requires.1 (omega (arith, c.ranges.speed))
+          (taken _ _ c.if-place-eq-PLACES.false (c.usb_allocate_device-place.ensures.0 _ _ _ c.requires.0))
+          c.set_byte.ensures c.set_byte-2.ensures).free,
       most,
     )) in
-    bound _ ((taken _ _ c.if-place-eq-PLACES.false (c.usb_allocate_device-place.ensures.0 _ _ _ c.requires.0)))
+    bound _ (taken _ _ c.if-place-eq-PLACES.false (c.usb_allocate_device-place.ensures.0 _ _ _ c.requires.0))
     (put_then _ _ _ _ c.set_byte.ensures (put_then _ _ _ _ c.set_byte-2.ensures attached))

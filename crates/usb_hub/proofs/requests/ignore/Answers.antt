@@ -7,5 +7,6 @@ pub returns-in-Stop : goal.returns-in-Stop
 returns-in-Stop c = ignored-stop _ _ c.in-Stop.is
 
 pub returns : goal.returns
-returns c = let step = c.args.step in
+returns c =
+    let step = c.args.step in
     rw c.ok.ensures (ignored-rest step (not-stop step.answer c.in_default.not-Stop))

@@ -14,12 +14,15 @@ pub hub_change_port_feature-set-requires : goal.hub_change_port_feature-set-requ
 hub_change_port_feature-set-requires c = (c.loop-port.invariant.fit, c.requires.1, search rules)
 
 pub returns-in_default : goal.returns-in_default
-returns-in_default c = let set = ignores-as c.ignore-step.ensures c.hub_change_port_feature-set.ensures in
+returns-in_default c =
+    let set = ignores-as c.ignore-step.ensures c.hub_change_port_feature-set.ensures in
     ends_with c.loop-port.invariant (each-ended _ _ _ c.loop-port-test.true set (not-ok _ c.in_default.not-Ok))
 
 pub loop-port-preserved : goal.loop-port-preserved
-loop-port-preserved c = let set = ignores-as c.ignore-step.ensures c.hub_change_port_feature-set.ensures in
-    each_goes _ _ _ c.loop-port-test.true c.loop-port.invariant (as-ok c.in-Ok.is set) c.hub_change_port_feature-set.auto.store c.hub_change_port_feature-set.auto.log
+loop-port-preserved c =
+    let set = ignores-as c.ignore-step.ensures c.hub_change_port_feature-set.ensures in
+    each_goes _ _ _ c.loop-port-test.true c.loop-port.invariant (as-ok c.in-Ok.is set) c.hub_change_port_feature-set.auto.store
+    c.hub_change_port_feature-set.auto.log
 
 pub returns : goal.returns
 returns c = rw c.ok.ensures (ends_with c.loop-port.invariant (each_last _ _ _ c.loop-port-test.false c.loop-port.invariant.fit))

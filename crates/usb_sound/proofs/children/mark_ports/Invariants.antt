@@ -7,7 +7,8 @@ use Rattle.usb_sound.specs.Test.{mark_ports}
 use Rattle.usb_sound.proofs.children.mark_ports.Given as goal
 
 abbrev pub invariant-loop-q : goal.invariant-loop-q
-invariant-loop-q l = (l.q ≤ ports_per_hub) × (mark_ports l.store l.n l.h 0 ports_per_hub l.initial.seen ≡ mark_ports l.store l.n l.h l.q (ports_per_hub - l.q) l.seen)
+invariant-loop-q l =
+    (l.q ≤ ports_per_hub) × (mark_ports l.store l.n l.h 0 ports_per_hub l.initial.seen ≡ mark_ports l.store l.n l.h l.q (ports_per_hub - l.q) l.seen)
 
 abbrev pub decreases-loop-q : goal.decreases-loop-q
 decreases-loop-q l = ports_per_hub - l.q

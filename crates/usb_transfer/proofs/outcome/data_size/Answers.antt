@@ -4,5 +4,6 @@ use Rattle.usb_transfer.proofs.Outcomes.{size_is}
 use Rattle.usb_transfer.proofs.outcome.data_size.Goals as goal
 
 pub returns : goal.returns
-returns c = let size = size_is c.args.rest.now c.requires in
+returns c =
+    let size = size_is c.args.rest.now c.requires in
     (omega (arith, size, c.wide.ensures.0, c.wide-2.ensures.0), omega (arith, c.wide.ensures.1, c.wide-2.ensures.1))

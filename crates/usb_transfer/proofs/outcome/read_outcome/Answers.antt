@@ -11,7 +11,8 @@ returns-then-rest-size c = takes-cut _ c.if-rest-lt-HEADER_LEN.false (sym c.outc
     (rw c.data_size-size.ensures.0 at c.if-rest-size.true)
 
 pub returns-then-outcome_listed : goal.returns-then-outcome_listed
-returns-then-outcome_listed c = let size = c.data_size-size.ensures in
+returns-then-outcome_listed c =
+    let size = c.data_size-size.ensures in
     rw size.0
     (takes_whole _ c.if-rest-lt-HEADER_LEN.false (sym c.outcome_listed.ensures ∙ c.if-outcome_listed.true)
     (rw size.0 at c.if-rest-size.false)
