@@ -43,9 +43,9 @@ $(BUSRUN): $(SOURCES) | $(LIBRARY)
 $(STORECHECK): $(SOURCES) | $(BUSRUN)
 	@cd crates/storecheck && rt run < /dev/null > /dev/null
 
-# Where it runs here vectors finds no recorded answers, and says so.
+# Where it runs here vectors finds no recorded answers, says so, and ends well.
 $(VECTORS): $(SOURCES) | $(LIBRARY)
-	@cd crates/vectors && rt run > /dev/null 2>&1 || test -x out/vectors
+	@cd crates/vectors && rt run > /dev/null 2>&1
 
 # The port beside the original: the recorded calls and walks, tables made by hand, busrun, 1,000,000 random walks and 200,000
 # random calls. 'make compare N=1000000' gives the number of both.

@@ -13,7 +13,12 @@ reference=$?
 wait $ci
 proved=$? ci=''
 port=1
-[ $proved = 0 ] && { make --no-print-directory compare rust; port=$?; }
+if [ $proved = 0 ]; then
+    # built anew from what was proved
+    rm -f target/staticlib/liblidrumak.a crates/busrun/out/busrun
+    make --no-print-directory compare rust
+    port=$?
+fi
 cat "$verdict"
 if grep -Eq '^rt: ok.*, 0*[1-9][0-9]* bad' "$verdict"; then
     echo 'FAILED: an edit that must fail does not fit its file'
