@@ -1,12 +1,15 @@
 #!/usr/bin/env python3
 """Gives the repository's definitions and lemmas today's spelling: words in snake case. Types, constructors and modules keep theirs.
 
-usage: python3 tools/port_names.py    at the top of a repository that port.py has turned, once
+usage: python3 tools/port_names.py [--dashes]    at the top of a repository that port.py has turned, once
 
-Two rules:
+--dashes applies the third rule alone.
+
+Three rules:
 - a name with a capital after a small letter, as hubAttach, is spelled hub_attach, in specs/, proofs/, the clauses of src/ and must-fail/;
 - the numbers of CONSTANTS, which were spelled like types, get the names given there. Which name a file means is told by its imports,
-  since Error is also an answer and HubDescriptor two numbers.
+  since Error is also an answer and HubDescriptor two numbers;
+- a name whose words a dash joins, as bound-ended, is spelled bound_ended, unless that name is taken.
 Words of the USB standard in comments, as bDescriptorType, stay, and what stands between quotation marks.
 """
 import glob
@@ -59,6 +62,11 @@ CLASHES = {"Rattle.replays.proofs.Agreement": {"same_int": "equal-same_int"}}
 WORD = r"[A-Za-z_][\w'-]*"
 TOKEN = re.compile(rf"(?<![\w'-]){WORD}")
 USE = re.compile(r"^\s*(pub )?(?:ghost )?use (\S+?)(?: as (\S+?))?(?:\.\{([^}]*)\})?;?$", re.M)
+# a name as antt reads it; a definition, a field or a lemma; an answer to a goal that the check makes
+NAME = re.compile(r"[^\s(){}\[\],;.`\"|]+")
+STATED = re.compile(r"^\s*(?:(?:abbrev|unfoldable|pub)\s+)*([^\s:({]+)(?: [^:=]*)? : ")
+MADE = re.compile(r"^\s*(?:(?:abbrev|pub)\s+)*([^\s:({]+) : (?:goal|tie|lts)\.")
+OWN = tuple(f"Rattle.{name}." for name in sorted(os.listdir("crates"))) if os.path.isdir("crates") else ()
 DEFINED = re.compile(rf"^\s*(?:(?:abbrev|unfoldable|data|record|pub)\s+)*({WORD})\b", re.M)
 QUOTED = re.compile(r'"[^"\n]*"')
 
@@ -218,6 +226,41 @@ def turn_edit(text, crate, given, sources):
     return "\n".join(lines)
 
 
+def dashed(sources):
+    """The names of this repository's definitions, fields and lemmas whose words a dash joins, and their names in snake case. A name keeps
+    its dash where the other one is taken, as hub-attach beside hub_attach, or where a part is a type's name; so do the kit's names and those
+    that the check makes."""
+    defined, taken, kept = set(), set(), set()
+    for path, text in sources.items():
+        own = "/specs/" in path or re.fullmatch(r"crates/\w+/proofs/\w+\.antt", path)
+        for line in text.split("\n"):
+            code = line[:comment_start(line, "--")]
+            taken.update(NAME.findall(code))
+            match = USE.match(code.strip()) if "use " in code else None
+            if match:
+                if match.group(4) and not match.group(2).startswith(OWN):
+                    kept.update(NAME.findall(match.group(4)))
+                continue
+            match = MADE.match(code)
+            if match:
+                kept.add(match.group(1))
+                continue
+            match = STATED.match(code)
+            if match and own and re.fullmatch(r"[a-z][a-z0-9_]*(-[a-z0-9_]+)+'*", match.group(1)):
+                defined.add(match.group(1))
+    return {name: name.replace("-", "_") for name in defined - kept if name.replace("-", "_") not in taken}
+
+
+def undash(text, names):
+    """The text with these names; what stands behind `c.` and the like is a name that the check made."""
+    def one(match):
+        token, before = match.group(0), text[:match.start()]
+        if token not in names or re.search(r"(?:^|[\s(){}\[\],;.])(?:c|w|l|goal|initial)\.$", before[-12:]):
+            return token
+        return names[token]
+    return NAME.sub(one, text)
+
+
 def main():
     antt = sorted(glob.glob("crates/*/specs/**/*.antt", recursive=True) + glob.glob("crates/*/proofs/**/*.antt", recursive=True))
     rust = sorted(glob.glob("crates/*/src/**/*.rt", recursive=True))
@@ -231,6 +274,10 @@ def main():
     turned = {path: turn_antt(sources[path], module_of(path), given, words) for path in antt}
     turned |= {path: turn_source(sources[path], given, words) for path in rust}
     turned |= {path: turn_edit(read(path), path.split("/")[1], given, sources) for path in edits}
+    if sys.argv[1:] == ["--dashes"]:
+        turned = {path: read(path) for path in antt + rust + edits}
+    names = dashed({path: text for path, text in turned.items() if path.endswith(".antt")})
+    turned = {path: undash(text, names) for path, text in turned.items()}
     changed = 0
     for path, text in turned.items():
         if text != read(path):

@@ -4,7 +4,7 @@ use mathlib.Core.List.{[], ◌∷◌}
 use Rattle.usb_model.proofs.Definitions.{definitions}
 use Rattle.busrun.specs.Run.{actions_in, logged, attached, busrun}
 
-pub no-outcomes : busrun []
+pub no_outcomes : busrun []
     ≡ 0x01 ∷ 0x00 ∷ 0x01 ∷ 0x00 ∷ 0x03 ∷ 0x00 ∷ 0x00 ∷ 0x00 ∷ 0x80 ∷ 0x06 ∷ 0x00 ∷ 0x01 ∷ 0x00 ∷ 0x00 ∷ 0x12 ∷ 0x00 ∷ []
 unfolding definitions actions_in logged attached busrun
-no-outcomes = refl
+no_outcomes = refl

@@ -13,32 +13,32 @@ use Rattle.usb_model.specs.Count.{most_requests, store_left}
 use Rattle.usb_model.specs.History.{Event}
 use Rattle.usb_model.specs.Demand3 as Model
 use Rattle.usb_model.specs.Demand3.{Call, attaches, scans, checks, verdict, program, entry, Ended, finished, failed, Reached}
-use Rattle.usb_model.proofs.Keeps.{left-holds}
-use Rattle.usb_model.proofs.Onward.{requests-logged}
-use Rattle.usb_model.proofs.Entries.{root-attach-accounts, scan-accounts, port-check-accounts}
-use Rattle.usb_model.proofs.Demand3.{demand3, call-walks, attaches-is, scans-is, checks-is}
+use Rattle.usb_model.proofs.Keeps.{left_holds}
+use Rattle.usb_model.proofs.Onward.{requests_logged}
+use Rattle.usb_model.proofs.Entries.{root_attach_accounts, scan_accounts, port_check_accounts}
+use Rattle.usb_model.proofs.Demand3.{demand3, call_walks, attaches_is, scans_is, checks_is}
 use Rattle.lidrumak.specs.Calls.{promised, Made, left_by, actions_of, Calls, empty, refusal, ran, Histories, Reports}
 
 -- ---- whole actions
 
-whole-actions : (lent : Lent) → LentBytes lent → (c : Call) → verdict c lent ≡ accepted
+whole_actions : (lent : Lent) → LentBytes lent → (c : Call) → verdict c lent ≡ accepted
     → (end_of (program c (start lent))).at.logged ≡ 16 * actions_of c lent
-whole-actions lent bytes c v = omega (arith, (left-holds (call-walks lent bytes c v).1).onward.logged)
+whole_actions lent bytes c v = omega (arith, (left_holds (call_walks lent bytes c v).1).onward.logged)
 
 -- ---- the contracts, as demand 3 has them
 
-promised-is : (c : Call) (lent : Lent) → promised c lent ≡ entry c lent
-promised-is (attaches speed) lent = sym (attaches-is speed lent)
-promised-is (scans hub) lent = sym (scans-is hub lent)
-promised-is (checks hub port) lent = sym (checks-is hub port lent)
+promised_is : (c : Call) (lent : Lent) → promised c lent ≡ entry c lent
+promised_is (attaches speed) lent = sym (attaches_is speed lent)
+promised_is (scans hub) lent = sym (scans_is hub lent)
+promised_is (checks hub port) lent = sym (checks_is hub port lent)
 
-entry-is : (c : Call) (made : Made c) → left_by made ≡ entry c made.lends
-entry-is c made = made.is ∙ promised-is c made.lends
+entry_is : (c : Call) (made : Made c) → left_by made ≡ entry c made.lends
+entry_is c made = made.is ∙ promised_is c made.lends
 
 -- an accepted call, also a stopped one
-accepted-is : (c : Call) (made : Made c) → verdict c made.lends ≡ accepted → left_by made ≡ answered (program c (start made.lends))
+accepted_is : (c : Call) (made : Made c) → verdict c made.lends ≡ accepted → left_by made ≡ answered (program c (start made.lends))
 unfolding call
-accepted-is c made v = entry-is c made ∙ rw v refl
+accepted_is c made v = entry_is c made ∙ rw v refl
 
 -- ---- a list of calls
 
@@ -52,11 +52,11 @@ reached : {s : List ℕ} {h : List Event} → Calls s h → Reached s h
 reached empty = Model.empty
 reached (refusal r c made e n) = Model.refusal (reached r) c made.lends e n
 reached (ran r c made e v n) =
-    let is = accepted-is c made v in
+    let is = accepted_is c made v in
     let d = ended (program c (start made.lends)) (λ h a. n (h, ap (λ (l : Left). l.answer) is ∙ a)) in
     let new : made.new ≡ (end_of (program c (start made.lends))).store = ap (λ (l : Left). l.new) is in
     let log : made.log ≡ (end_of (program c (start made.lends))).log = ap (λ (l : Left). l.log) is in
-    let whole = whole-actions made.lends made.bytes c v in
+    let whole = whole_actions made.lends made.bytes c v in
     rw (new, log) (Model.ran (reached r) c made.lends e made.bytes v d (actions_of c made.lends) whole)
 
 pub histories : Histories
@@ -65,24 +65,24 @@ histories s h r =
       claim.0,
       λ speed made e.
           subst (λ (x : Left). x.requests ≤ most_requests (store_left (verdict (attaches speed) made.lends) made.lends x))
-          (sym (entry-is (attaches speed) made)) (claim.1 speed made.lends e made.bytes),
+          (sym (entry_is (attaches speed) made)) (claim.1 speed made.lends e made.bytes),
     )
 
 -- ---- the count in a reply
 
 accounts : (c : Call) (made : Made c) → Accounts made.lends (left_by made)
-accounts (attaches speed) made = rw made.is (root-attach-accounts made.lends made.bytes speed)
-accounts (scans hub) made = rw made.is (scan-accounts made.lends made.bytes hub)
-accounts (checks hub port) made = rw made.is (port-check-accounts made.lends made.bytes hub port)
+accounts (attaches speed) made = rw made.is (root_attach_accounts made.lends made.bytes speed)
+accounts (scans hub) made = rw made.is (scan_accounts made.lends made.bytes hub)
+accounts (checks hub port) made = rw made.is (port_check_accounts made.lends made.bytes hub port)
 
 sent : (c : Call) (made : Made c) → verdict c made.lends ≡ accepted
     → made.reply.requests ≡ requests_in (actions_of c made.lends) made.log
 sent c made v =
-    let is = accepted-is c made v in
-    let r = left-holds (call-walks made.lends made.bytes c v).1 in
+    let is = accepted_is c made v in
+    let r = left_holds (call_walks made.lends made.bytes c v).1 in
     let n : r.onward.actions ≡ actions_of c made.lends = omega (arith, r.onward.logged) in
     ap (λ (l : Left). l.requests) is
-    ∙ requests-logged r.onward refl r.good.logged refl
+    ∙ requests_logged r.onward refl r.good.logged refl
     ∙ ap₂ requests_in n (sym (ap (λ (l : Left). l.log) is))
 
 pub reports : Reports

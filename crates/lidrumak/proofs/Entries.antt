@@ -22,7 +22,7 @@ use Rattle.usb_model.specs.Walk.{record_length, walk}
 use Rattle.usb_model.specs.Entry as Model
 use Rattle.usb_model.specs.Entry.{Lent, start, leaves, answered, call, configuration_walk}
 use Rattle.usb_model.specs.Kept.{Bytes, Good, LentBytes}
-use Rattle.usb_model.proofs.Entries.{start-good}
+use Rattle.usb_model.proofs.Entries.{start_good}
 use Rattle.usb_transfer.specs.declared.log.Step.{Step}
 use Rattle.usb_transfer.specs.Runs.{here, Fit, gave, Ends}
 use Rattle.usb_walk.specs.Steps.{ends_with}
@@ -34,23 +34,23 @@ use Rattle.usb_entry.specs.Replies.{left, walk_left, refusal_reply, step_reply, 
 
 -- ---- a call, refused or run
 
-answered-is : (a : Answer) (w : World) → leaves (answer_number a) w ≡ answered (gave a tt w)
-answered-is Ok w = refl
-answered-is (Error e) w = refl
-answered-is (Stop h) w = refl
+answered_is : (a : Answer) (w : World) → leaves (answer_number a) w ≡ answered (gave a tt w)
+answered_is Ok w = refl
+answered_is (Error e) w = refl
+answered_is (Stop h) w = refl
 
 module _ (l : Lent) (m : M (Unit {0})) {verdict : Model.Verdict} (v : Verdict) (e : told v ≡ verdict) where
-  pub refused-call : {r : Refusal} → v ≡ Refused r → (reply : Reply) → reply ≡ refusal_reply r → left reply l.new l.log ≡ call l verdict m
+  pub refused_call : {r : Refusal} → v ≡ Refused r → (reply : Reply) → reply ≡ refusal_reply r → left reply l.new l.log ≡ call l verdict m
   unfolding call
-  refused-call f reply g = rw (← e, f, g)
+  refused_call f reply g = rw (← e, f, g)
 
   -- the driver ran m in the model's first world
-  pub accepted-call : v ≡ Accepted → {w : World} → w ≡ start l → (step : Step) {s log : List ℕ}
+  pub accepted_call : v ≡ Accepted → {w : World} → w ≡ start l → (step : Step) {s log : List ℕ}
       → Ends m w step.answer tt (here s log l.outcomes step.at) → (reply : Reply) → reply ≡ step_reply step
       → left reply s log ≡ call l verdict m
   unfolding call
-  accepted-call f b step {s} {log} d reply g =
-      rw (← e, f, g) (answered-is step.answer (here s log l.outcomes step.at) ∙ ap answered (sym d.is ∙ ap m b))
+  accepted_call f b step {s} {log} d reply g =
+      rw (← e, f, g) (answered_is step.answer (here s log l.outcomes step.at) ∙ ap answered (sym d.is ∙ ap m b))
 
 pub accepts : {verdict : Model.Verdict} (v : Verdict) → told v ≡ verdict → v ≡ Accepted → verdict ≡ Model.accepted
 accepts v e f = sym e ∙ ap told f
@@ -61,8 +61,8 @@ accepts v e f = sym e ∙ ap told f
 pub bytes_of : {l : List ℕ} → ((i : ℕ) → Fits w8 (get_or l i 0)) → Bytes l
 bytes_of f = record { below = λ i. (f i).fits }
 
-pub first-world : (l : Lent) {s : List ℕ} → s ≡ l.old → {at : Progress} → at ≡ nothing_done → here s l.log l.outcomes at ≡ start l
-first-world l copied none = rw (copied, none)
+pub first_world : (l : Lent) {s : List ℕ} → s ≡ l.old → {at : Progress} → at ≡ nothing_done → here s l.log l.outcomes at ≡ start l
+first_world l copied none = rw (copied, none)
 
 -- what the functions of the driver ask of it
 pub record Started (w : World) : Type 0 where
@@ -71,15 +71,15 @@ pub record Started (w : World) : Type 0 where
 
 pub started : (l : Lent) → LentBytes l → Sound l.old → {w : World} → w ≡ start l → Started w
 started l bytes r e =
-    let good = start-good l bytes r in
+    let good = start_good l bytes r in
     subst Started (sym e) (record {
       fit = record { whole = good.whole; logged = good.logged; taken = good.taken; counted = omega arith };
       good = good;
     })
 
-pub on-bus : (l : Lent) → LentBytes l → Sound l.old → {w : World} → w ≡ start l
+pub on_bus : (l : Lent) → LentBytes l → Sound l.old → {w : World} → w ≡ start l
     → (place : ℕ) → place < place_count → place + 1 ≤ first_unused l.old → Bus place w
-on-bus l bytes r e place inside used =
+on_bus l bytes r e place inside used =
     let s = started l bytes r refl in
     subst (Bus place) (sym e) (record { fit = s.fit; good = s.good; used = omega arith; inside = inside })
 
@@ -91,9 +91,9 @@ module _ (d kept : List ℕ) (n : ℤ) where
   too_long e h = simp (lt-ltb 65535 (length d) h, e)
 
   module _ (short : length d ≤ 65535) where
-    pub wrong-record : n ≡ refusal_number BadArgument → (length kept ≡ record_length → ⊥) → walk_left n kept ≡ configuration_walk d kept
+    pub wrong_record : n ≡ refusal_number BadArgument → (length kept ≡ record_length → ⊥) → walk_left n kept ≡ configuration_walk d kept
     unfolding configuration_walk
-    wrong-record e h = simp (le-ltb 65535 (length d) short, ne_eqb (length kept) record_length h, e)
+    wrong_record e h = simp (le-ltb 65535 (length d) short, ne_eqb (length kept) record_length h, e)
 
     pub walked_all : length kept ≡ record_length → (answer : Answer) (after : List ℕ) → ends_with answer after ≡ walk d kept
         → n ≡ answer_number answer → walk_left n after ≡ configuration_walk d kept

@@ -36,7 +36,7 @@ left_by made = left made.reply made.new made.log
 abbrev pub Stopped : Reply → Type 0
 Stopped reply = (h : Halt) × (reply.answer ≡ halt_number h)
 
--- how many actions a call logs (proofs/Calls.antt, `whole-actions`)
+-- how many actions a call logs (proofs/Calls.antt, `whole_actions`)
 abbrev pub actions_of : Call → Lent → ℕ
 actions_of c lent = (end_of (program c (start lent))).at.logged / action_length
 

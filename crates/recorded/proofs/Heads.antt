@@ -22,10 +22,10 @@ pub fits_by : (a : Asked) (e o n l c : Bool) → ltb a.entry 7 ≡ e → leb a.o
 unfolding fits
 fits_by a e o n l c pe po pn pl pc = cc
 
-pub walk-fits-by : (w : RecordedWalk) (d r : Bool) → leb w.descriptors_len 65536 ≡ d → leb w.record_len 969 ≡ r
+pub walk_fits_by : (w : RecordedWalk) (d r : Bool) → leb w.descriptors_len 65536 ≡ d → leb w.record_len 969 ≡ r
     → (d && r) ≡ walk_fits w
 unfolding walk_fits
-walk-fits-by w d r pd pr = cc
+walk_fits_by w d r pd pr = cc
 
 module _ (bytes : List ℕ) where
   pub asked_by : (first second old new log outcomes : ℕ) → first ≡ number_in bytes 4 4 → second ≡ number_in bytes 8 4
@@ -44,17 +44,17 @@ module _ (bytes : List ℕ) where
   unfolding asked_in
   asked_by first second old new log outcomes p q r s t u = cc
 
-  pub recorded-by : (answer : ℤ) (requests log store word : ℕ) → answer ≡ signed word → word ≡ number_in bytes 28 4
+  pub recorded_by : (answer : ℤ) (requests log store word : ℕ) → answer ≡ signed word → word ≡ number_in bytes 28 4
       → requests ≡ number_in bytes 32 8 → log ≡ number_in bytes 40 4 → store ≡ number_in bytes 44 4
       → ◌≡◌ {A = Recorded} (record { answer = answer; requests = requests; log_sum = log; store_sum = store }) (recorded_in bytes)
   unfolding recorded_in
-  recorded-by answer requests log store word p w q r s = cc
+  recorded_by answer requests log store word p w q r s = cc
 
-  pub walk-by : (descriptors kept : ℕ) (answer : ℤ) (sum word : ℕ) → descriptors ≡ number_in bytes 0 4 → kept ≡ number_in bytes 4 4
+  pub walk_by : (descriptors kept : ℕ) (answer : ℤ) (sum word : ℕ) → descriptors ≡ number_in bytes 0 4 → kept ≡ number_in bytes 4 4
       → answer ≡ signed word → word ≡ number_in bytes 8 4 → sum ≡ number_in bytes 12 4
       → ◌≡◌ {A = RecordedWalk} (record { descriptors_len = descriptors; record_len = kept; answer = answer; record_sum = sum }) (walk_in bytes)
   unfolding walk_in
-  walk-by descriptors kept answer sum word p q r w s = cc
+  walk_by descriptors kept answer sum word p q r w s = cc
 
 -- ---- what a head that fits gives
 
@@ -80,16 +80,16 @@ fitting asked e =
     let p = both (ltb asked.entry 7) (leb asked.old_len 40000) q.0 in
     record { entry = ltb-true _ _ p.0; old = leb-true _ _ p.1; new = leb-true _ _ q.1; log = leb-true _ _ r.1; outcomes = leb-true _ _ s.1 }
 
-pub walk-fitting : (walk : RecordedWalk) → walk_fits walk ≡ true → (walk.descriptors_len ≤ 65536) × (walk.record_len ≤ 969)
+pub walk_fitting : (walk : RecordedWalk) → walk_fits walk ≡ true → (walk.descriptors_len ≤ 65536) × (walk.record_len ≤ 969)
 unfolding walk_fits
-walk-fitting walk e =
+walk_fitting walk e =
     let p = both (leb walk.descriptors_len 65536) _ e in
     (leb-true _ _ p.0, leb-true _ _ p.1)
 
-pub outcomes-fit : (asked : Asked) → fits asked ≡ true → asked.outcomes_len ≤ 65536
-outcomes-fit asked e = (fitting asked e).outcomes
+pub outcomes_fit : (asked : Asked) → fits asked ≡ true → asked.outcomes_len ≤ 65536
+outcomes_fit asked e = (fitting asked e).outcomes
 
-pub descriptors-fit : (walk : RecordedWalk) → walk_fits walk ≡ true → walk.descriptors_len ≤ 65536
-descriptors-fit walk e = (walk-fitting walk e).0
+pub descriptors_fit : (walk : RecordedWalk) → walk_fits walk ≡ true → walk.descriptors_len ≤ 65536
+descriptors_fit walk e = (walk_fitting walk e).0
 
-pub ruleset lengths = (outcomes-fit, descriptors-fit)
+pub ruleset lengths = (outcomes_fit, descriptors_fit)

@@ -14,21 +14,21 @@ cond_same true e = e
 cond_same false e = refl
 
 module _ (counts : List ℕ) (i : ℕ) where
-  pub counted-out : length counts ≤ i → counts ≡ counted counts i
+  pub counted_out : length counts ≤ i → counts ≡ counted counts i
   unfolding counted
-  counted-out h = sym (cond_same (ltb (get_or counts i 0) 4294967295) (set_out counts i (get_or counts i 0 + 1) h))
+  counted_out h = sym (cond_same (ltb (get_or counts i 0) 4294967295) (set_out counts i (get_or counts i 0 + 1) h))
 
-  pub counted-one : get_or counts i 0 < 4294967295 → set counts i (get_or counts i 0 + 1) ≡ counted counts i
+  pub counted_one : get_or counts i 0 < 4294967295 → set counts i (get_or counts i 0 + 1) ≡ counted counts i
   unfolding counted
-  counted-one h = simp (lt-ltb _ _ h)
+  counted_one h = simp (lt-ltb _ _ h)
 
-  pub counted-full : 4294967295 ≤ get_or counts i 0 → counts ≡ counted counts i
+  pub counted_full : 4294967295 ≤ get_or counts i 0 → counts ≡ counted counts i
   unfolding counted
-  counted-full h = simp (le-ltb _ _ h)
+  counted_full h = simp (le-ltb _ _ h)
 
-pub noted-out : (numbers : List ℕ) (n : ℕ) → length numbers ≤ n → n ≡ noted numbers n
+pub noted_out : (numbers : List ℕ) (n : ℕ) → length numbers ≤ n → n ≡ noted numbers n
 unfolding noted
-noted-out numbers n h = simp (le-ltb _ _ h)
+noted_out numbers n h = simp (le-ltb _ _ h)
 
 pub noted_one : (numbers : List ℕ) (n : ℕ) → n < length numbers → n + 1 ≡ noted numbers n
 unfolding noted

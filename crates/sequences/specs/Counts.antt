@@ -13,4 +13,4 @@ noted numbers n = cond (ltb n (length numbers)) (n + 1) n
 pub record Tallied (agreed differ : List ℕ) (entry : ℕ) (agrees : Bool) (n number : ℕ) (agreed' differ' : List ℕ) (n' : ℕ) : Type 0 where
   pub counts : agreed' ≡ cond agrees (counted agreed entry) agreed
   pub notes : differ' ≡ cond agrees differ (set differ n number)
-  pub number-noted : n' ≡ cond agrees n (noted differ n)
+  pub number_noted : n' ≡ cond agrees n (noted differ n)

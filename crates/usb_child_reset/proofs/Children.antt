@@ -25,19 +25,19 @@ module _ (hub child : ℕ) (s : List ℕ) where
   unfolding port_of_child
   nowhere e = record { ends = λ l o at f. got _ _ _ (got _ _ _ (got _ _ _ (got _ _ _ (thrown _ _ _ (ap not e) f)))); port = tt }
 
-  pub other-parent : (byte_at s child parent_field ≡ hub + 1 → ⊥) → Finds hub child s Nowhere
-  other-parent p = nowhere (simp (ne_eqb (byte_at s child parent_field) (hub + 1) p))
+  pub other_parent : (byte_at s child parent_field ≡ hub + 1 → ⊥) → Finds hub child s Nowhere
+  other_parent p = nowhere (simp (ne_eqb (byte_at s child parent_field) (hub + 1) p))
 
   module _ (p : byte_at s child parent_field ≡ hub + 1) where
     pub no-port : byte_at s hub max_children_field ≤ number → Finds hub child s Nowhere
     no-port q = nowhere (simp (eq-eqb _ _ p, le-ltb _ _ q))
 
     module _ (q : number < byte_at s hub max_children_field) where
-      pub other-child : (byte_at s hub (child_field number) ≡ child + 1 → ⊥) → Finds hub child s Nowhere
-      other-child r = nowhere (simp (eq-eqb _ _ p, lt-ltb _ _ q, ne_eqb (byte_at s hub (child_field number)) (child + 1) r))
+      pub other_child : (byte_at s hub (child_field number) ≡ child + 1 → ⊥) → Finds hub child s Nowhere
+      other_child r = nowhere (simp (eq-eqb _ _ p, lt-ltb _ _ q, ne_eqb (byte_at s hub (child_field number)) (child + 1) r))
 
-      pub stands-there : byte_at s hub (child_field number) ≡ child + 1 → byte_at s hub max_children_field ≤ 10 → Finds hub child s (At number)
+      pub stands_there : byte_at s hub (child_field number) ≡ child + 1 → byte_at s hub max_children_field ≤ 10 → Finds hub child s (At number)
       unfolding port_of_child
-      stands-there r most =
+      stands_there r most =
           let is : stands ≡ true = simp (eq-eqb _ _ p, lt-ltb _ _ q, eq-eqb _ _ r) in
           record { ends = λ l o at f. got _ _ _ (got _ _ _ (got _ _ _ (got _ _ _ (unless _ (ap not is) (returned _ f))))); port = omega arith }

@@ -12,17 +12,17 @@ use lib.Dec.{eqb}
 use lib.ListN.{length, get_or}
 use Rattle.usb_store.specs.Layout.{used_field}
 use Rattle.usb_store.specs.Access.{byte_at, with_bytes}
-use Rattle.usb_store.proofs.Fields.{bytes_same, byte-of-bytes}
-use Rattle.usb_store.proofs.Cells.{byte-beside, other_place}
+use Rattle.usb_store.proofs.Fields.{bytes_same, byte_of_bytes}
+use Rattle.usb_store.proofs.Cells.{byte_beside, other_place}
 use Rattle.usb_device.specs.Device.{places_below, new_device, first_unused, first_unused_from, free_places}
-use Rattle.usb_device.proofs.NewDevice.{length-new}
+use Rattle.usb_device.proofs.NewDevice.{length_new}
 
 -- ---- the first
 
-first-from : (s : List ℕ) (n p : ℕ) → first_unused_from s n p < p + n → byte_at s (first_unused_from s n p) used_field ≡ 0
+first_from : (s : List ℕ) (n p : ℕ) → first_unused_from s n p < p + n → byte_at s (first_unused_from s n p) used_field ≡ 0
 unfolding first_unused_from
-first-from s zero p h = absurd (omega arith)
-first-from s (suc n) p h = go (first-from s n (p + 1)) (eqb (byte_at s p used_field) 0) refl h
+first_from s zero p h = absurd (omega arith)
+first_from s (suc n) p h = go (first_from s n (p + 1)) (eqb (byte_at s p used_field) 0) refl h
   where
     go : (first_unused_from s n (p + 1) < p + 1 + n → byte_at s (first_unused_from s n (p + 1)) used_field ≡ 0) → (b : Bool)
         → eqb (byte_at s p used_field) 0 ≡ b → cond b p (first_unused_from s n (p + 1)) < p + suc n
@@ -50,20 +50,20 @@ before s (suc n) p q h l = go (before s n (p + 1) q) (eqb (byte_at s p used_fiel
     go rest false e (yes same) m = λ z. eqb-false (byte_at s p used_field) 0 e (ap (λ (k : ℕ). byte_at s k used_field) same ∙ z)
     go rest false e (no other) m = rest (omega arith) m
 
-pub first-most : (s : List ℕ) → first_unused s ≤ 32
-first-most s = within s 32 0
+pub first_most : (s : List ℕ) → first_unused s ≤ 32
+first_most s = within s 32 0
 
 -- the places before the first unused one are not unused
-pub first-before : (s : List ℕ) (p : ℕ) → p < first_unused s → byte_at s p used_field ≢ 0
-first-before s p h = before s 32 0 p (omega arith) h
+pub first_before : (s : List ℕ) (p : ℕ) → p < first_unused s → byte_at s p used_field ≢ 0
+first_before s p h = before s 32 0 p (omega arith) h
 
 -- the first unused place is unused
 pub first-unused : (s : List ℕ) → first_unused s < 32 → byte_at s (first_unused s) used_field ≡ 0
-first-unused s h = first-from s 32 0 (omega arith)
+first-unused s h = first_from s 32 0 (omega arith)
 
 -- where the first n places are used, the first unused one comes after them
-pub first-least : (s : List ℕ) (n : ℕ) → n ≤ 32 → ((p : ℕ) → p < n → byte_at s p used_field ≢ 0) → n ≤ first_unused s
-first-least s n h used = go (dec_lt (first_unused s) n)
+pub first_least : (s : List ℕ) (n : ℕ) → n ≤ 32 → ((p : ℕ) → p < n → byte_at s p used_field ≢ 0) → n ≤ first_unused s
+first_least s n h used = go (dec_lt (first_unused s) n)
   where
     go : Dec (first_unused s < n) → n ≤ first_unused s
     go (yes l) = absurd (used (first_unused s) l (first-unused s (omega arith)))
@@ -72,23 +72,23 @@ first-least s n h used = go (dec_lt (first_unused s) n)
 -- ---- how many
 
 -- one place's part in the count
-one-most : (b : Bool) → cond {A = ℕ} b 1 0 ≤ 1
-one-most true = omega arith
-one-most false = omega arith
+one_most : (b : Bool) → cond {A = ℕ} b 1 0 ≤ 1
+one_most true = omega arith
+one_most false = omega arith
 
-below-most : (test : ℕ → Bool) (n : ℕ) → places_below test n ≤ n
+below_most : (test : ℕ → Bool) (n : ℕ) → places_below test n ≤ n
 unfolding places_below
-below-most test zero = omega arith
-below-most test (suc n) = omega (arith, below-most test n, one-most (test n))
+below_most test zero = omega arith
+below_most test (suc n) = omega (arith, below_most test n, one_most (test n))
 
-pub free-most : (s : List ℕ) → free_places s ≤ 32
-free-most s = below-most (λ place. eqb (byte_at s place used_field) 0) 32
+pub free_most : (s : List ℕ) → free_places s ≤ 32
+free_most s = below_most (λ place. eqb (byte_at s place used_field) 0) 32
 
 -- a place passes a test or its contrary
-pub count-not : (test : ℕ → Bool) (n : ℕ) → places_below test n + places_below (λ p. not (test p)) n ≡ n
+pub count_not : (test : ℕ → Bool) (n : ℕ) → places_below test n + places_below (λ p. not (test p)) n ≡ n
 unfolding places_below
-count-not test zero = refl
-count-not test (suc n) = omega (arith, count-not test n, one (test n))
+count_not test zero = refl
+count_not test (suc n) = omega (arith, count_not test n, one (test n))
   where
     one : (b : Bool) → cond {A = ℕ} b 1 0 + cond (not b) 1 0 ≡ 1
     one true = refl
@@ -96,51 +96,51 @@ count-not test (suc n) = omega (arith, count-not test n, one (test n))
 
 module _ (f g : ℕ → Bool) where
   -- tests that agree count the same
-  pub count-agree : (n : ℕ) → ((p : ℕ) → p < n → g p ≡ f p) → places_below g n ≡ places_below f n
+  pub count_agree : (n : ℕ) → ((p : ℕ) → p < n → g p ≡ f p) → places_below g n ≡ places_below f n
   unfolding places_below
-  count-agree zero same = refl
-  count-agree (suc n) same = rw (same n (omega arith), count-agree n (λ p h. same p (omega arith)))
+  count_agree zero same = refl
+  count_agree (suc n) same = rw (same n (omega arith), count_agree n (λ p h. same p (omega arith)))
 
   -- and where they agree but for one place, its part makes the difference
-  pub count-one : (p n : ℕ) → p < n → ((q : ℕ) → q < n → q ≢ p → g q ≡ f q)
+  pub count_one : (p n : ℕ) → p < n → ((q : ℕ) → q < n → q ≢ p → g q ≡ f q)
       → places_below g n + cond (f p) 1 0 ≡ places_below f n + cond (g p) 1 0
   unfolding places_below
-  count-one p zero h same = absurd (omega arith)
-  count-one p (suc n) h same = go (ℕ_discrete n p) (λ l. count-one p n l (λ q k d. same q (omega arith) d))
+  count_one p zero h same = absurd (omega arith)
+  count_one p (suc n) h same = go (ℕ_discrete n p) (λ l. count_one p n l (λ q k d. same q (omega arith) d))
     where
       go : Dec (n ≡ p) → (p < n → places_below g n + cond (f p) 1 0 ≡ places_below f n + cond (g p) 1 0)
           → cond (g n) 1 0 + places_below g n + cond (f p) 1 0 ≡ cond (f n) 1 0 + places_below f n + cond (g p) 1 0
       go (yes e) less =
-          let rest = count-agree n (λ q l. same q (omega arith) (λ z. omega arith)) in
+          let rest = count_agree n (λ q l. same q (omega arith) (λ z. omega arith)) in
           rw e (omega (arith, rw e at rest))
       go (no ne) less = rw (same n (omega arith) ne) (omega (arith, less (omega arith)))
 
 -- a write past the first byte of a place frees no place and takes none
-pub free-field : (s : List ℕ) (p f : ℕ) (vs : List ℕ) → 0 < f → f + length vs ≤ 1152 → free_places (with_bytes s p f vs) ≡ free_places s
-free-field s p f vs above room =
-    count-agree _ _ 32 (λ q h. ap (λ (v : ℕ). eqb v 0) (byte-beside s p f vs q used_field room (omega arith) (λ _. inr above)))
+pub free_field : (s : List ℕ) (p f : ℕ) (vs : List ℕ) → 0 < f → f + length vs ≤ 1152 → free_places (with_bytes s p f vs) ≡ free_places s
+free_field s p f vs above room =
+    count_agree _ _ 32 (λ q h. ap (λ (v : ℕ). eqb v 0) (byte_beside s p f vs q used_field room (omega arith) (λ _. inr above)))
 
 -- a byte of a new device
-pub new-byte : (s : List ℕ) (p f : ℕ) → length s ≡ 36864 → p < 32 → f < 1152
+pub new_byte : (s : List ℕ) (p f : ℕ) → length s ≡ 36864 → p < 32 → f < 1152
     → byte_at (with_bytes s p 0 (new_device p)) p f ≡ get_or (new_device p) f 0
 unfolding new_device
-new-byte s p f whole inside h =
-    rw zero-add at (byte-of-bytes (with_bytes s p 0 (new_device p)) p 0 1152 f h)
-    ∙ ap (λ (l : List ℕ). get_or l f 0) (bytes_same s p 0 (new_device p) (record { whole = whole; inside = inside; room = omega (arith, length-new p) }))
+new_byte s p f whole inside h =
+    rw zero-add at (byte_of_bytes (with_bytes s p 0 (new_device p)) p 0 1152 f h)
+    ∙ ap (λ (l : List ℕ). get_or l f 0) (bytes_same s p 0 (new_device p) (record { whole = whole; inside = inside; room = omega (arith, length_new p) }))
 
 -- and of every other place
-pub new-elsewhere : (s : List ℕ) (p q f : ℕ) → f < 1152 → q ≢ p → byte_at (with_bytes s p 0 (new_device p)) q f ≡ byte_at s q f
-new-elsewhere s p q f l n = other_place s p 0 (new_device p) q f (omega (arith, length-new p)) l n
+pub new_elsewhere : (s : List ℕ) (p q f : ℕ) → f < 1152 → q ≢ p → byte_at (with_bytes s p 0 (new_device p)) q f ≡ byte_at s q f
+new_elsewhere s p q f l n = other_place s p 0 (new_device p) q f (omega (arith, length_new p)) l n
 
 -- the place of a new device is used
-pub new-used : (s : List ℕ) (p : ℕ) → length s ≡ 36864 → p < 32 → byte_at (with_bytes s p 0 (new_device p)) p used_field ≡ 1
+pub new_used : (s : List ℕ) (p : ℕ) → length s ≡ 36864 → p < 32 → byte_at (with_bytes s p 0 (new_device p)) p used_field ≡ 1
 unfolding new_device
-new-used s p whole inside = new-byte s p used_field whole inside (omega arith)
+new_used s p whole inside = new_byte s p used_field whole inside (omega arith)
 
 -- a new device at an unused place takes it
-pub free-taken : (s : List ℕ) (p : ℕ) → length s ≡ 36864 → p < 32 → byte_at s p used_field ≡ 0
+pub free_taken : (s : List ℕ) (p : ℕ) → length s ≡ 36864 → p < 32 → byte_at s p used_field ≡ 0
     → free_places (with_bytes s p 0 (new_device p)) + 1 ≡ free_places s
-free-taken s p whole inside was =
-    let one = count-one (λ q. eqb (byte_at s q used_field) 0) (λ q. eqb (byte_at (with_bytes s p 0 (new_device p)) q used_field) 0) p 32 inside
-    (λ q h ne. ap (λ (v : ℕ). eqb v 0) (new-elsewhere s p q used_field (omega arith) ne)) in
-    omega (arith, rw (was, new-used s p whole inside) at one)
+free_taken s p whole inside was =
+    let one = count_one (λ q. eqb (byte_at s q used_field) 0) (λ q. eqb (byte_at (with_bytes s p 0 (new_device p)) q used_field) 0) p 32 inside
+    (λ q h ne. ap (λ (v : ℕ). eqb v 0) (new_elsewhere s p q used_field (omega arith) ne)) in
+    omega (arith, rw (was, new_used s p whole inside) at one)

@@ -11,24 +11,24 @@ use lib.Seq.{ext_get_or, get_or-set_same, get_or-set_other}
 use Rattle.usb_types.specs.Numbers.{little_endian}
 use Rattle.usb_store.specs.Layout.{port_status_field, children_field, child_field, max_children_field}
 use Rattle.usb_store.specs.Access.{Within, byte_at, number_at, with_bytes, with_number}
-use Rattle.usb_store.proofs.Fields.{with-length, byte-same, byte-other, bytes_same, byte-of-bytes, number_same, number-other}
+use Rattle.usb_store.proofs.Fields.{with_length, byte_same, byte_other, bytes_same, byte_of_bytes, number_same, number_other}
 use Rattle.usb_device.specs.declared.hub.HubDevice.{HubDevice}
 use Rattle.usb_device.specs.Ports.{ports_from, ten_ports, hub_at, with_statuses, with_hub, TenPorts}
 
-ports-at : (n port : ℕ) (f : ℕ → ℕ) (k : ℕ) → k < n → get_or (ports_from n port f) k 0 ≡ f (port + k)
-ports-at zero port f k h = absurd (omega arith)
-ports-at (suc n) port f zero h = ap f (sym (add-zero port))
-ports-at (suc n) port f (suc k) h =
+ports_at : (n port : ℕ) (f : ℕ → ℕ) (k : ℕ) → k < n → get_or (ports_from n port f) k 0 ≡ f (port + k)
+ports_at zero port f k h = absurd (omega arith)
+ports_at (suc n) port f zero h = ap f (sym (add-zero port))
+ports_at (suc n) port f (suc k) h =
     let next : port + 1 + k ≡ port + suc k = omega arith in
-    ports-at n (port + 1) f k (omega arith) ∙ ap f next
+    ports_at n (port + 1) f k (omega arith) ∙ ap f next
 
 -- the value of a port
-pub ten-at : (f : ℕ → ℕ) (port : ℕ) → port < 10 → get_or (ten_ports f) port 0 ≡ f port
-ten-at f port h = let zero-first : 0 + port ≡ port = omega arith in ports-at 10 0 f port h ∙ ap f zero-first
+pub ten_at : (f : ℕ → ℕ) (port : ℕ) → port < 10 → get_or (ten_ports f) port 0 ≡ f port
+ten_at f port h = let zero-first : 0 + port ≡ port = omega arith in ports_at 10 0 f port h ∙ ap f zero-first
 
 -- a list of ten is told by the value of each port
-ten-is : (f : ℕ → ℕ) (vs : List ℕ) → length vs ≡ 10 → ((port : ℕ) → port < 10 → f port ≡ get_or vs port 0) → ten_ports f ≡ vs
-ten-is f vs long same = ext_get_or 0 (ten_ports f) vs (sym long) (λ port h. ten-at f port h ∙ same port h)
+ten_is : (f : ℕ → ℕ) (vs : List ℕ) → length vs ≡ 10 → ((port : ℕ) → port < 10 → f port ≡ get_or vs port 0) → ten_ports f ≡ vs
+ten_is f vs long same = ext_get_or 0 (ten_ports f) vs (sym long) (λ port h. ten_at f port h ∙ same port h)
 
 -- ten values, of which the first n are those of f
 pub record Filled (f : ℕ → ℕ) (vs : List ℕ) (n : ℕ) : Type 0 where
@@ -46,50 +46,50 @@ filled_more {f} {vs} {n} v l e filled =
     go port h (yes same) = rw same (get_or-set_same vs n v 0 (omega (arith, filled.long)) ∙ e)
     go port h (no other) = get_or-set_other vs n port v 0 other ∙ filled.first port (omega arith)
 
-pub filled-all : {f : ℕ → ℕ} {vs : List ℕ} {n : ℕ} → 10 ≤ n → Filled f vs n → ten_ports f ≡ vs
-filled-all {f} {vs} all filled = ten-is f vs filled.long (λ port h. sym (filled.first port (omega arith)))
+pub filled_all : {f : ℕ → ℕ} {vs : List ℕ} {n : ℕ} → 10 ≤ n → Filled f vs n → ten_ports f ≡ vs
+filled_all {f} {vs} all filled = ten_is f vs filled.long (λ port h. sym (filled.first port (omega arith)))
 
 -- the status and the child of a port, as the code reads them
-pub status-at : (s : List ℕ) (place port : ℕ) → port < 10
+pub status_at : (s : List ℕ) (place port : ℕ) → port < 10
     → get_or (hub_at s place).port_status port 0 ≡ number_at s place (port_status_field port) 4
 unfolding hub_at
-status-at s place port h = ten-at (λ q. number_at s place (port_status_field q) 4) port h
+status_at s place port h = ten_at (λ q. number_at s place (port_status_field q) 4) port h
 
-pub child-at : (s : List ℕ) (place port : ℕ) → port < 10 → get_or (hub_at s place).children port 0 ≡ byte_at s place (child_field port)
+pub child_at : (s : List ℕ) (place port : ℕ) → port < 10 → get_or (hub_at s place).children port 0 ≡ byte_at s place (child_field port)
 unfolding hub_at
-child-at s place port h = ten-at (λ q. byte_at s place (child_field q)) port h
+child_at s place port h = ten_at (λ q. byte_at s place (child_field q)) port h
 
 -- ---- statuses stored
 
-pub statuses-length : (s : List ℕ) (place port : ℕ) (vs : List ℕ) → length (with_statuses s place port vs) ≡ length s
+pub statuses_length : (s : List ℕ) (place port : ℕ) (vs : List ℕ) → length (with_statuses s place port vs) ≡ length s
 unfolding with_statuses
-statuses-length s place port [] = refl
-statuses-length s place port (v ∷ vs) =
-    statuses-length (with_number s place (port_status_field port) 4 v) place (port + 1) vs ∙ with-length s place (port_status_field port) (little_endian 4 v)
+statuses_length s place port [] = refl
+statuses_length s place port (v ∷ vs) =
+    statuses_length (with_number s place (port_status_field port) 4 v) place (port + 1) vs ∙ with_length s place (port_status_field port) (little_endian 4 v)
 
 -- the status of a port before them is as it was
-statuses-before : (vs s : List ℕ) (place port q : ℕ) → q < port
+statuses_before : (vs s : List ℕ) (place port q : ℕ) → q < port
     → number_at (with_statuses s place port vs) place (port_status_field q) 4 ≡ number_at s place (port_status_field q) 4
 unfolding with_statuses
-statuses-before [] s place port q h = refl
-statuses-before (v ∷ vs) s place port q h =
-    statuses-before vs (with_number s place (port_status_field port) 4 v) place (port + 1) q (omega arith)
-    ∙ number-other s place (port_status_field port) (little_endian 4 v) place (port_status_field q) 4 (inr (omega arith))
+statuses_before [] s place port q h = refl
+statuses_before (v ∷ vs) s place port q h =
+    statuses_before vs (with_number s place (port_status_field port) 4 v) place (port + 1) q (omega arith)
+    ∙ number_other s place (port_status_field port) (little_endian 4 v) place (port_status_field q) 4 (inr (omega arith))
 
-statuses-same : (vs s : List ℕ) (place port k : ℕ) → length s ≡ 36864 → place < 32 → port + length vs ≤ 10
+statuses_same : (vs s : List ℕ) (place port k : ℕ) → length s ≡ 36864 → place < 32 → port + length vs ≤ 10
     → ((i : ℕ) → get_or vs i 0 < 256 ^ 4) → k < length vs
     → number_at (with_statuses s place port vs) place (port_status_field (port + k)) 4 ≡ get_or vs k 0
 unfolding with_statuses
-statuses-same [] s place port k whole inside room fits h = absurd (omega arith)
-statuses-same (v ∷ vs) s place port zero whole inside room fits h =
+statuses_same [] s place port k whole inside room fits h = absurd (omega arith)
+statuses_same (v ∷ vs) s place port zero whole inside room fits h =
     rw add-zero
-    (statuses-before vs (with_number s place (port_status_field port) 4 v) place (port + 1) port (omega arith)
+    (statuses_before vs (with_number s place (port_status_field port) 4 v) place (port + 1) port (omega arith)
     ∙ number_same s place (port_status_field port) 4 v (record { whole = whole; inside = inside; room = omega arith }) (fits 0))
-statuses-same (v ∷ vs) s place port (suc k) whole inside room fits h =
+statuses_same (v ∷ vs) s place port (suc k) whole inside room fits h =
     let next : port + suc k ≡ port + 1 + k = omega arith in
     rw next
-    (statuses-same vs (with_number s place (port_status_field port) 4 v) place (port + 1) k
-    (with-length s place (port_status_field port) (little_endian 4 v) ∙ whole) inside (omega arith) (λ i. fits (suc i)) (omega arith))
+    (statuses_same vs (with_number s place (port_status_field port) 4 v) place (port + 1) k
+    (with_length s place (port_status_field port) (little_endian 4 v) ∙ whole) inside (omega arith) (λ i. fits (suc i)) (omega arith))
 
 -- ---- the whole record
 
@@ -97,44 +97,44 @@ module _ (s : List ℕ) (place : ℕ) (h : HubDevice) (whole : length s ≡ 3686
   abbrev ports : List ℕ
   ports = with_statuses s place 0 h.port_status
 
-  abbrev with-children : List ℕ
-  with-children = with_bytes ports place children_field h.children
+  abbrev with_children : List ℕ
+  with_children = with_bytes ports place children_field h.children
 
-  ports-whole : length ports ≡ 36864
-  ports-whole = statuses-length s place 0 h.port_status ∙ whole
+  ports_whole : length ports ≡ 36864
+  ports_whole = statuses_length s place 0 h.port_status ∙ whole
 
-  children-whole : length with-children ≡ 36864
-  children-whole = with-length ports place children_field h.children ∙ ports-whole
+  children_whole : length with_children ≡ 36864
+  children_whole = with_length ports place children_field h.children ∙ ports_whole
 
-  status-back : (port : ℕ) → port < 10 → number_at (with_hub s place h) place (port_status_field port) 4 ≡ get_or h.port_status port 0
+  status_back : (port : ℕ) → port < 10 → number_at (with_hub s place h) place (port_status_field port) 4 ≡ get_or h.port_status port 0
   unfolding with_hub
-  status-back port l =
+  status_back port l =
       let first : port ≡ 0 + port = omega arith in
-      number-other with-children place max_children_field (h.max_children ∷ []) place (port_status_field port) 4 (inr (omega arith))
-      ∙ number-other ports place children_field h.children place (port_status_field port) 4 (inr (omega arith))
+      number_other with_children place max_children_field (h.max_children ∷ []) place (port_status_field port) 4 (inr (omega arith))
+      ∙ number_other ports place children_field h.children place (port_status_field port) 4 (inr (omega arith))
       ∙ ap (λ (q : ℕ). number_at ports place (port_status_field q) 4) first
-      ∙ statuses-same h.port_status s place 0 port whole inside (omega (arith, good.statuses)) good.fits (omega (arith, good.statuses))
+      ∙ statuses_same h.port_status s place 0 port whole inside (omega (arith, good.statuses)) good.fits (omega (arith, good.statuses))
 
-  child-back : (port : ℕ) → port < 10 → byte_at (with_hub s place h) place (child_field port) ≡ get_or h.children port 0
+  child_back : (port : ℕ) → port < 10 → byte_at (with_hub s place h) place (child_field port) ≡ get_or h.children port 0
   unfolding with_hub
-  child-back port l =
+  child_back port l =
       let long : length h.children ≡ 10 = good.children in
-      let w : Within ports place children_field (length h.children) = record { whole = ports-whole; inside = inside; room = omega arith } in
-      byte-other with-children place max_children_field (h.max_children ∷ []) place (child_field port) (inr (omega arith))
-      ∙ byte-of-bytes with-children place children_field (length h.children) port (omega arith)
+      let w : Within ports place children_field (length h.children) = record { whole = ports_whole; inside = inside; room = omega arith } in
+      byte_other with_children place max_children_field (h.max_children ∷ []) place (child_field port) (inr (omega arith))
+      ∙ byte_of_bytes with_children place children_field (length h.children) port (omega arith)
       ∙ ap (λ (l : List ℕ). get_or l port 0) (bytes_same ports place children_field h.children w)
 
-  max-back : byte_at (with_hub s place h) place max_children_field ≡ h.max_children
+  max_back : byte_at (with_hub s place h) place max_children_field ≡ h.max_children
   unfolding with_hub
-  max-back =
-      byte-same with-children place max_children_field h.max_children (record { whole = children-whole; inside = inside; room = omega arith })
+  max_back =
+      byte_same with_children place max_children_field h.max_children (record { whole = children_whole; inside = inside; room = omega arith })
 
   -- loading what was stored gives it back
   pub load_stored : hub_at (with_hub s place h) place ≡ h
   unfolding hub_at
   load_stored =
       rw (
-        ten-is (λ port. number_at (with_hub s place h) place (port_status_field port) 4) h.port_status good.statuses status-back,
-        ten-is (λ port. byte_at (with_hub s place h) place (child_field port)) h.children good.children child-back,
-        max-back,
+        ten_is (λ port. number_at (with_hub s place h) place (port_status_field port) 4) h.port_status good.statuses status_back,
+        ten_is (λ port. byte_at (with_hub s place h) place (child_field port)) h.children good.children child_back,
+        max_back,
       )

@@ -16,27 +16,27 @@ use Rattle.usb_device.specs.Ports.{with_statuses}
 use Rattle.usb_device.specs.Device.{marked, first_unused_from}
 
 -- store_statuses
-pub statuses-turn : (s : List ℕ) (place : ℕ) (vs : List ℕ) (port : ℕ) → port < length vs
+pub statuses_turn : (s : List ℕ) (place : ℕ) (vs : List ℕ) (port : ℕ) → port < length vs
     → with_statuses s place port (drop port vs) ≡ with_statuses (with_number s place (port_status_field port) 4 (get_or vs port 0)) place (port + 1) (drop (port + 1) vs)
 unfolding with_statuses
-statuses-turn s place vs port h = rw (drop-cons vs port 0, ← add-one port)
+statuses_turn s place vs port h = rw (drop-cons vs port 0, ← add-one port)
 
-pub statuses-end : (s : List ℕ) (place : ℕ) (vs : List ℕ) (port : ℕ) → length vs ≤ port → with_statuses s place port (drop port vs) ≡ s
+pub statuses_end : (s : List ℕ) (place : ℕ) (vs : List ℕ) (port : ℕ) → length vs ≤ port → with_statuses s place port (drop port vs) ≡ s
 unfolding with_statuses
-statuses-end s place vs port h = rw (drop_of_length-le vs h)
+statuses_end s place vs port h = rw (drop_of_length-le vs h)
 
 -- mark
-pub mark-turn : (bytes : List ℕ) (first step n i : ℕ) → i < n
+pub mark_turn : (bytes : List ℕ) (first step n i : ℕ) → i < n
     → marked bytes (first + i * step) step (n - i) ≡ marked (set bytes (first + i * step) 1) (first + (i + 1) * step) step (n - (i + 1))
 unfolding marked
-mark-turn bytes first step n i h =
+mark_turn bytes first step n i h =
     let left : n - i ≡ suc (n - (i + 1)) = omega arith in
     let next : first + i * step + step ≡ first + (i + 1) * step = rw (add-one i, suc-mul) (omega arith) in
     rw (left, ← next)
 
-pub mark-end : (bytes : List ℕ) (at step n i : ℕ) → n ≤ i → marked bytes at step (n - i) ≡ bytes
+pub mark_end : (bytes : List ℕ) (at step n i : ℕ) → n ≤ i → marked bytes at step (n - i) ≡ bytes
 unfolding marked
-mark-end bytes at step n i h = let none : n - i ≡ 0 = omega arith in rw none
+mark_end bytes at step n i h = let none : n - i ≡ 0 = omega arith in rw none
 
 -- first_unused
 module _ (s : List ℕ) (place : ℕ) (h : place < 32) where
@@ -48,10 +48,10 @@ module _ (s : List ℕ) (place : ℕ) (h : place < 32) where
   unused_found e =
       turn ∙ ap (λ (b : Bool). cond b place (first_unused_from s (32 - (place + 1)) (place + 1))) (eq-eqb (byte_at s place used_field) 0 e)
 
-  pub unused-next : (byte_at s place used_field ≡ 0 → ⊥) → first_unused_from s (32 - place) place ≡ first_unused_from s (32 - (place + 1)) (place + 1)
-  unused-next e =
+  pub unused_next : (byte_at s place used_field ≡ 0 → ⊥) → first_unused_from s (32 - place) place ≡ first_unused_from s (32 - (place + 1)) (place + 1)
+  unused_next e =
       turn ∙ ap (λ (b : Bool). cond b place (first_unused_from s (32 - (place + 1)) (place + 1))) (ne_eqb (byte_at s place used_field) 0 e)
 
-pub unused-end : (s : List ℕ) (place : ℕ) → place ≡ 32 → first_unused_from s (32 - place) place ≡ 32
+pub unused_end : (s : List ℕ) (place : ℕ) → place ≡ 32 → first_unused_from s (32 - place) place ≡ 32
 unfolding first_unused_from
-unused-end s place e = rw e
+unused_end s place e = rw e

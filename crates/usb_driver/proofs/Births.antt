@@ -13,15 +13,15 @@ use Rattle.usb_model.specs.declared.Progress.{Progress}
 use Rattle.usb_model.specs.World.{World, M, put}
 use Rattle.usb_model.specs.Usbd.{usb_allocate_device}
 use Rattle.usb_model.specs.Kept.{Good}
-use Rattle.usb_model.proofs.Keeps.{Any, Left, left-holds, next}
-use Rattle.usb_model.proofs.Stores.{new-follows, first-new, free_new, store-good}
-use Rattle.usb_model.proofs.Ways.{is_done, Allocates, bus-full, allocated, allocate-ends}
+use Rattle.usb_model.proofs.Keeps.{Any, Left, left_holds, next}
+use Rattle.usb_model.proofs.Stores.{new_follows, first_new, free_new, store_good}
+use Rattle.usb_model.proofs.Ways.{is_done, Allocates, bus_full, allocated, allocate_ends}
 use Rattle.usb_model.proofs.Walks.{Reach, Walks, reach_here}
 use Rattle.usb_model.proofs.Primitives.{puts}
 use Rattle.usb_model.proofs.Functions.{small}
 use Rattle.usb_types.specs.declared.types.Answer.TheVariants.{Ok}
 use Rattle.usb_transfer.specs.Runs.{here, Ends}
-use Rattle.usb_transfer.proofs.Steps.{put_then, put_last, put-bytes-fit}
+use Rattle.usb_transfer.proofs.Steps.{put_then, put_last, put_bytes_fit}
 use Rattle.usb_child.specs.Parts.{new_child}
 use Rattle.usb_driver.specs.Bus.{Bus}
 use Rattle.usb_driver.proofs.Reaches.{reached, at_place}
@@ -49,7 +49,7 @@ parts_next m k w y v e = parts m (λ _. k) w y v e
 
 walked_to : {u : World} {n : ℕ} {A : Type 0} {Q : A → Type 0} {m : M A} {w v : World} {x : A}
     → Walks u n m Q → Reach u n w → m w ≡ done x v → Reach u n v
-walked_to {u} {n} {A} {Q} {m} {w} {v} {x} h r e = left-holds (subst (λ (s : Ran World A). Left (Reach u n) Q s) e (h.run w r))
+walked_to {u} {n} {A} {Q} {m} {w} {v} {x} h r e = left_holds (subst (λ (s : Ran World A). Left (Reach u n) Q s) e (h.run w r))
 
 -- a place was allocated: it is the first that was not used, and now it is
 record Allocated (w : World) (place : ℕ) (v : World) : Type 0 where
@@ -70,12 +70,12 @@ Took w (fail e v) = Unit {0}
 Took w (halt h v) = Unit {0}
 
 took : {w : World} {r : Ran World ℕ} → Good w → Allocates w r → Took w r
-took g bus-full = tt
+took g bus_full = tt
 took g (allocated {p} e inside) =
-    record { good = store-good _ (new-follows g p e inside) g; is = e; inside = inside; used = first-new g p e inside; free = free_new g p e inside }
+    record { good = store_good _ (new_follows g p e inside) g; is = e; inside = inside; used = first_new g p e inside; free = free_new g p e inside }
 
-allocated-at : (w : World) (place : ℕ) (v : World) → Good w → usb_allocate_device w ≡ done place v → Allocated w place v
-allocated-at w place v g e = subst (Took w) e (took g (allocate-ends w))
+allocated_at : (w : World) (place : ℕ) (v : World) → Good w → usb_allocate_device w ≡ done place v → Allocated w place v
+allocated_at w place v g e = subst (Took w) e (took g (allocate_ends w))
 
 -- the bus of a new child
 pub record Born (w : World) (place : ℕ) (v : World) : Type 0 where
@@ -88,7 +88,7 @@ born hub port place {w} {v} b l e =
     let reset = parts_next _ _ w place v e.is in
     let here : Reach w (hub + 1) reset.middle = walked_to (resets hub port l) (at_place b) reset.first in
     let taken = parts _ _ reset.middle place v reset.last in
-    let new = allocated-at reset.middle taken.value taken.middle here.good taken.first in
+    let new = allocated_at reset.middle taken.value taken.middle here.good taken.first in
     let put = parts_next _ _ taken.middle place v taken.last in
     let there : Reach taken.middle (taken.value + 1) put.middle =
     walked_to (places hub port taken.value l (omega (arith, here.used, new.is)) (omega arith) new.inside)
@@ -102,12 +102,12 @@ born hub port place {w} {v} b l e =
     }
 
 -- the root hub: a place is taken, and it has its speed and its power
-pub root-born : (place speed : ℕ) (s s₁ s₂ : List ℕ) {w : World} {l o : List ℕ} {at : Progress}
+pub root_born : (place speed : ℕ) (s s₁ s₂ : List ℕ) {w : World} {l o : List ℕ} {at : Progress}
     → Good w → speed < 256 → Ends usb_allocate_device w Ok place (here s l o at)
     → s₁ ≡ with_bytes s place speed_field (speed ∷ []) → s₂ ≡ with_bytes s₁ place status_field (powered_status ∷ []) → Born w place (here s₂ l o at)
-root-born place speed s s₁ s₂ {w} {l} {o} {at} g low e e₁ e₂ =
-    let new = allocated-at w place (here s l o at) g e.is in
-    let fit = put-bytes-fit place speed_field (speed ∷ []) s₁ e₁ e.fit in
+root_born place speed s s₁ s₂ {w} {l} {o} {at} g low e e₁ e₂ =
+    let new = allocated_at w place (here s l o at) g e.is in
+    let fit = put_bytes_fit place speed_field (speed ∷ []) s₁ e₁ e.fit in
     let end = put_then {l = l} {o = o} {at = at} place speed_field speed s₁ e₁ (put_last place status_field powered_status s₂ e₂ fit) in
     let v = here s l o at in
     let walk : Walks v (place + 1) (put place speed_field speed >> put place status_field powered_status) Any =

@@ -10,7 +10,7 @@ use Rattle.usb_model.specs.World.{M, get}
 use Rattle.usb_model.specs.Features.{c_port_enable, bit}
 use Rattle.usb_model.specs.Hub.{hub_port_connection_changed, hub_check_connection, hub_attach}
 use Rattle.usb_model.specs.Attach.{usb_attach_device}
-use Rattle.usb_transfer.proofs.Regroups.{Same, same, back, join, bind-next, bind-bind, next-next, next-bind, given}
+use Rattle.usb_transfer.proofs.Regroups.{Same, same, back, join, bind_next, bind_bind, next_next, next_bind, given}
 use Rattle.usb_attach.specs.Parts.{default_state, addressed, described, enumerated}
 use Rattle.usb_hub_attach.specs.Parts.{hub_described, hub_powered, hub_ready}
 use Rattle.usb_child.specs.Parts.{start_change, no_new_device, reset_changed, place_child, new_child}
@@ -24,7 +24,7 @@ nothing p f rest = record { is = λ w. refl }
 enabled : (b : Bool) (m : M (Unit {0})) (p f : ℕ) (c : ℕ → Bool) (x rest : M (Unit {0}))
     → Same (ignore (when b m) >> (get p f >>= (λ v. when (b && c v) x >> rest))) (when b (ignore m >> (get p f >>= (λ v. when (c v) x))) >> rest)
 unfolding when
-enabled true m p f c x rest = back (next-next _ _ _ (bind-next _ _ _ (λ v. same _)))
+enabled true m p f c x rest = back (next_next _ _ _ (bind_next _ _ _ (λ v. same _)))
 enabled false m p f c x rest = nothing p f rest
 
 module _ (attach : ℕ → M (Unit {0})) where
@@ -35,30 +35,30 @@ module _ (attach : ℕ → M (Unit {0})) where
       (usb_attach_device attach place)
   unfolding usb_attach_device enumerated default_state addressed described
   attaches place =
-      bind-next _ _ _ (λ address. join (next-next _ _ _ (join (next-next _ _ _ (next-next _ _ _ (same _)))
-      (bind-next _ _ _ (λ result. next-next _ _ _ (same _)))))
-      (next-next _ _ _ (next-next _ _ _ (same _))))
+      bind_next _ _ _ (λ address. join (next_next _ _ _ (join (next_next _ _ _ (next_next _ _ _ (same _)))
+      (bind_next _ _ _ (λ result. next_next _ _ _ (same _)))))
+      (next_next _ _ _ (next_next _ _ _ (same _))))
 
   -- ---- `hub_attach`
 
-  pub hub-attaches : (hub : ℕ)
+  pub hub_attaches : (hub : ℕ)
       → Same (hub_ready hub >> (get hub max_children_field >>= (λ children. each children 0 (λ port. ignore (hub_check_connection attach hub port)))))
       (hub_attach attach hub)
   unfolding hub_attach hub_ready hub_described hub_powered
-  hub-attaches hub =
-      bind-next _ _ _ (λ count. next-next _ _ _ (bind-next _ _ _ (λ address. next-next _ _ _ (bind-next _ _ _ (λ attributes. next-next _ _ _ (
-      join (next-next _ _ _ (next-next _ _ _ (next-next _ _ _ (same _))))
-      (next-next _ _ _ (next-next _ _ _ (next-next _ _ _ (bind-next _ _ _ (λ ports. same _)))))))))))
+  hub_attaches hub =
+      bind_next _ _ _ (λ count. next_next _ _ _ (bind_next _ _ _ (λ address. next_next _ _ _ (bind_next _ _ _ (λ attributes. next_next _ _ _ (
+      join (next_next _ _ _ (next_next _ _ _ (next_next _ _ _ (same _))))
+      (next_next _ _ _ (next_next _ _ _ (next_next _ _ _ (bind_next _ _ _ (λ ports. same _)))))))))))
 
   -- ---- `hub_port_connection_changed`
 
   pub changes : (hub port : ℕ) → Same (new_child hub port >>= attach) (hub_port_connection_changed attach hub port)
   unfolding hub_port_connection_changed new_child reset_changed start_change place_child no_new_device
   changes hub port =
-      join (next-bind _ _ _ (bind-bind _ _ _ (λ place. join (next-bind _ _ _ (given _ _))
-      (next-next _ _ _ (next-next _ _ _ (bind-next _ _ _ (λ status. next-next _ _ _ (next-next _ _ _ (same _)))))))))
-      (join (next-next _ _ _ (bind-next _ _ _ (λ status. bind-next _ _ _ (λ child. next-next _ _ _ (next-next _ _ _ (same _))))))
-      (next-next _ _ _ (next-next _ _ _ (next-next _ _ _ (same _)))))
+      join (next_bind _ _ _ (bind_bind _ _ _ (λ place. join (next_bind _ _ _ (given _ _))
+      (next_next _ _ _ (next_next _ _ _ (bind_next _ _ _ (λ status. next_next _ _ _ (next_next _ _ _ (same _)))))))))
+      (join (next_next _ _ _ (bind_next _ _ _ (λ status. bind_next _ _ _ (λ child. next_next _ _ _ (next_next _ _ _ (same _))))))
+      (next_next _ _ _ (next_next _ _ _ (next_next _ _ _ (same _)))))
 
   -- ---- `hub_check_connection`
 
@@ -68,6 +68,6 @@ module _ (attach : ℕ → M (Unit {0})) where
       (hub_check_connection attach hub port)
   unfolding hub_check_connection start_check clear_changes over_current clear_if end_check is_dropped is_changed
   checks hub port =
-      bind-bind _ _ _ (λ before. next-bind _ _ _ (bind-bind _ _ _ (λ status. bind-bind _ _ _ (λ number.
-      join (next-bind _ _ _ (bind-bind _ _ _ (λ child. given _ _)))
-      (next-next _ _ _ (enabled (bit c_port_enable status) _ _ _ _ _ _))))))
+      bind_bind _ _ _ (λ before. next_bind _ _ _ (bind_bind _ _ _ (λ status. bind_bind _ _ _ (λ number.
+      join (next_bind _ _ _ (bind_bind _ _ _ (λ child. given _ _)))
+      (next_next _ _ _ (enabled (bit c_port_enable status) _ _ _ _ _ _))))))

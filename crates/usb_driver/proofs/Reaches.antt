@@ -10,10 +10,10 @@ use Rattle.usb_model.specs.Programs.{Ran, ignore, when, each, end_of}
 use Rattle.usb_model.specs.World.{World, M}
 use Rattle.usb_model.specs.Hub.{hub_port_connection_changed, hub_check_connection}
 use Rattle.usb_model.specs.Attach.{usb_attach_device, attach_below}
-use Rattle.usb_model.proofs.Keeps.{Left, left-holds}
+use Rattle.usb_model.proofs.Keeps.{Left, left_holds}
 use Rattle.usb_model.proofs.Walks.{Reach, Walks, reach_here}
 use Rattle.usb_model.proofs.Pairs.{ignores₂, whens₂}
-use Rattle.usb_model.proofs.Cycle.{attach-walks, connection-changed, check-connection}
+use Rattle.usb_model.proofs.Cycle.{attach_walks, connection_changed, check_connection}
 use Rattle.usb_transfer.specs.Runs.{gave, Ends}
 use Rattle.usb_transfer.proofs.Steps.{Going}
 use Rattle.usb_attach.specs.Parts.{enumerated}
@@ -23,15 +23,15 @@ use Rattle.usb_check.specs.Parts.{start_check}
 use Rattle.usb_driver.specs.Bus.{Bus}
 use Rattle.usb_driver.proofs.Goes.{enumerates, readies, starts}
 
-left-gave : {A : Type 0} (a : Answer) (x : A) (v : World) → end_of (gave a x v) ≡ v
-left-gave Ok x v = refl
-left-gave (Error e) x v = refl
-left-gave (Stop h) x v = refl
+left_gave : {A : Type 0} (a : Answer) (x : A) (v : World) → end_of (gave a x v) ≡ v
+left_gave Ok x v = refl
+left_gave (Error e) x v = refl
+left_gave (Stop h) x v = refl
 
 pub reached : {u : World} {n : ℕ} {A : Type 0} {Q : A → Type 0} {m : M A} {w v : World} {a : Answer} {x : A}
     → Left (Reach u n) Q (m w) → Ends m w a x v → Reach u n v
 reached {u} {n} {A} {Q} {m} {w} {v} {a} {x} h e =
-    subst (Reach u n) (left-gave a x v) (left-holds (subst (λ (r : Ran World A). Left (Reach u n) Q r) e.is h))
+    subst (Reach u n) (left_gave a x v) (left_holds (subst (λ (r : Ran World A). Left (Reach u n) Q r) e.is h))
 
 -- from a bus in w to the same in v
 pub record After (place : ℕ) (w v : World) : Type 0 where
@@ -54,26 +54,26 @@ walked {w = w} b h e = after b (h.run w (at_place b)) e
 -- ---- the lines that attach no device
 
 module _ {place : ℕ} {w v : World} {a : Answer} (b : Bus place w) where
-  pub enumerated-after : Ends (enumerated place) w a tt v → After place w v
-  enumerated-after e = walked b (enumerates place) e
+  pub enumerated_after : Ends (enumerated place) w a tt v → After place w v
+  enumerated_after e = walked b (enumerates place) e
 
-  pub ready-after : Ends (hub_ready place) w a tt v → After place w v
-  ready-after e = walked b (readies place (omega arith)) e
+  pub ready_after : Ends (hub_ready place) w a tt v → After place w v
+  ready_after e = walked b (readies place (omega arith)) e
 
-  pub started-after : (port : ℕ) → port < 10 → {due : Due} → Ends (start_check place port) w a due v → After place w v
-  started-after port l e = walked b (starts place port l) e
+  pub started_after : (port : ℕ) → port < 10 → {due : Due} → Ends (start_check place port) w a due v → After place w v
+  started_after port l e = walked b (starts place port l) e
 
 -- ---- the functions that call each other
 
 module _ (n : ℕ) {hub port : ℕ} {w v : World} {a : Answer} (b : Bus hub w) (l : port < 10) where
-  pub changed-after : (due : Bool) → Ends (when due (ignore (hub_port_connection_changed (attach_below n) hub port))) w a tt v → After hub w v
-  changed-after due e =
-      after b ((whens₂ due (λ _. ignores₂ (connection-changed (attach_below n) (attach_below n) (λ u _. attach-walks n u) hub port (omega arith) l))
+  pub changed_after : (due : Bool) → Ends (when due (ignore (hub_port_connection_changed (attach_below n) hub port))) w a tt v → After hub w v
+  changed_after due e =
+      after b ((whens₂ due (λ _. ignores₂ (connection_changed (attach_below n) (attach_below n) (λ u _. attach_walks n u) hub port (omega arith) l))
       ).run w (at_place b)).walk e
 
-  pub checked-after : Ends (hub_check_connection (attach_below n) hub port) w a tt v → After hub w v
-  checked-after e =
-      after b ((check-connection (attach_below n) (attach_below n) (λ u _. attach-walks n u) hub port (omega arith) l).run w (at_place b)).walk e
+  pub checked_after : Ends (hub_check_connection (attach_below n) hub port) w a tt v → After hub w v
+  checked_after e =
+      after b ((check_connection (attach_below n) (attach_below n) (λ u _. attach_walks n u) hub port (omega arith) l).run w (at_place b)).walk e
 
 -- a device is attached where a place was taken, so the number is not zero
 pub at_fuel : (place free n : ℕ) {w v : World} {a : Answer} → free < n

@@ -15,12 +15,12 @@ use Rattle.usb_hub.specs.Parts.{passed, ignored, power_delay}
 
 -- ---- a result that is not looked at
 
-pub ignored-stop : (step : Step) (h : Halt) → step.answer ≡ Stop h → step ≡ ignored step
-ignored-stop step h e = ap (λ (a : Answer). record { answer = a; at = step.at }) (e ∙ sym (ap passed e))
+pub ignored_stop : (step : Step) (h : Halt) → step.answer ≡ Stop h → step ≡ ignored step
+ignored_stop step h e = ap (λ (a : Answer). record { answer = a; at = step.at }) (e ∙ sym (ap passed e))
 
-pub ignored-rest : (step : Step) → NotStop step.answer → record { answer = Ok; at = step.at } ≡ ignored step
+pub ignored_rest : (step : Step) → NotStop step.answer → record { answer = Ok; at = step.at } ≡ ignored step
 unfolding NotStop
-ignored-rest step n = ap (λ (a : Answer). record { answer = a; at = step.at }) (go step.answer n)
+ignored_rest step n = ap (λ (a : Answer). record { answer = a; at = step.at }) (go step.answer n)
   where
     go : (a : Answer) → NotStop a → Ok ≡ passed a
     go Ok n = refl
@@ -37,14 +37,14 @@ ignores {v = v} {a = a} d = record { is = ap (λ r. on (caught r) (λ _. skip)) 
     go (Stop h) = refl
 
 -- where the code holds the step that is kept
-pub ignores-as : {m : M (Unit {0})} {w : World} {s l o : List ℕ} {step kept : Step} → kept ≡ ignored step
+pub ignores_as : {m : M (Unit {0})} {w : World} {s l o : List ℕ} {step kept : Step} → kept ≡ ignored step
     → Ends m w step.answer tt (here s l o step.at) → Ends (ignore m) w kept.answer tt (here s l o kept.at)
-ignores-as e d = rw e (ignores d)
+ignores_as e d = rw e (ignores d)
 
 -- ---- requests and waits
 
-pub delay-none : (count : ℕ) → count ≡ 0 → 100000 ≡ power_delay count
-delay-none count e = simp (eq-eqb count 0 e)
+pub delay_none : (count : ℕ) → count ≡ 0 → 100000 ≡ power_delay count
+delay_none count e = simp (eq-eqb count 0 e)
 
-pub delay-some : (count : ℕ) → (count ≡ 0 → ⊥) → (n : ℕ) → n ≡ count → n * 2000 ≡ power_delay count
-delay-some count e n is = simp (ne_eqb count 0 e, is)
+pub delay_some : (count : ℕ) → (count ≡ 0 → ⊥) → (n : ℕ) → n ≡ count → n * 2000 ≡ power_delay count
+delay_some count e n is = simp (ne_eqb count 0 e, is)

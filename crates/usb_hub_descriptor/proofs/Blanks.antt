@@ -17,14 +17,14 @@ use Rattle.usb_transfer.specs.Runs.{here, Ends}
 use Rattle.usb_hub_descriptor.specs.Parts.{with_blank}
 
 module _ (s : List ℕ) (hub b : ℕ) (is : b ≡ byte_at s hub hub_field) where
-  pub blank-put : b ≡ hub_without_descriptor → (s₁ s₂ : List ℕ) → s₁ ≡ with_byte s hub hub_field hub_with_descriptor
+  pub blank_put : b ≡ hub_without_descriptor → (s₁ s₂ : List ℕ) → s₁ ≡ with_byte s hub hub_field hub_with_descriptor
       → s₂ ≡ with_bytes s₁ hub hub_descriptor_field (blank 9) → s₂ ≡ with_blank s hub
   unfolding with_blank
-  blank-put e s₁ s₂ e₁ e₂ = rw (eq-eqb (byte_at s hub hub_field) hub_without_descriptor (sym is ∙ e), e₂, e₁) refl
+  blank_put e s₁ s₂ e₁ e₂ = rw (eq-eqb (byte_at s hub hub_field) hub_without_descriptor (sym is ∙ e), e₂, e₁) refl
 
-  pub blank-kept : (b ≡ hub_without_descriptor → ⊥) → s ≡ with_blank s hub
+  pub blank_kept : (b ≡ hub_without_descriptor → ⊥) → s ≡ with_blank s hub
   unfolding with_blank
-  blank-kept e = rw (ne_eqb (byte_at s hub hub_field) hub_without_descriptor (λ x. e (is ∙ x))) refl
+  blank_kept e = rw (ne_eqb (byte_at s hub hub_field) hub_without_descriptor (λ x. e (is ∙ x))) refl
 
 pub blanked : {B : Type 0} {s l o : List ℕ} {at : Progress} (hub : ℕ) (s' : List ℕ) → s' ≡ with_blank s hub
     → {k : M B} {v : World} {a : Answer} {y : B} → Ends k (here s' l o at) a y v

@@ -9,11 +9,11 @@ use native.Mathlib.Omega.{arith}
 use lib.Dec.{eqb}
 use lib.ListN.{length, take, length-take}
 use Rattle.usb_types.specs.Numbers.{little_endian}
-use Rattle.usb_types.proofs.LittleEndian.{length-le}
+use Rattle.usb_types.proofs.LittleEndian.{length_le}
 use Rattle.usb_types.specs.declared.request.UsbDeviceRequest.{UsbDeviceRequest}
 use Rattle.usb_store.specs.Layout.{number_field, status_field, configuration_index_field, hub_field, device_descriptor_field, max_packet_size0_field, configuration_descriptor_field, interfaces_field, hub_descriptor_field, hub_status_field, port_status_field, child_field, max_children_field, error_field, last_transfer_field}
 use Rattle.usb_store.specs.Access.{bytes_at, offset, with_bytes, with_byte}
-use Rattle.usb_store.proofs.Writes.{write-nil}
+use Rattle.usb_store.proofs.Writes.{write_nil}
 use Rattle.usb_store.proofs.Fields.{bytes_most}
 use Rattle.usb_model.specs.Programs.{change}
 use Rattle.usb_model.specs.World.{World, with_store, get, get_bytes, get_number, put, put_bytes, put_number, appended, counted, log_action, log_request, micro_delay, dwc_update_host_frame_interval}
@@ -23,8 +23,8 @@ use Rattle.usb_model.specs.Walk.{record_length}
 use Rattle.usb_model.specs.Usbd.{read_device_descriptor, usb_read_device_descriptor, usb_set_address, usb_set_configure, usb_configure}
 use Rattle.usb_model.specs.Hub.{hub_read_descriptor, hub_get_status, hub_change_port_feature, hub_power_on, hub_port_get_status, port_status, await_reset, hub_port_reset2}
 use Rattle.usb_model.proofs.Costs.{bind, next, looks, more, gives, skips, throws, stops, sees, changes, succeeds, ignores, either, whens, eachs}
-use Rattle.usb_model.proofs.Record.{walk-long}
-use Rattle.usb_model.proofs.Budget.{Known, place, Knows, Keeps, Wrote, Plain, plain-writes, most-writes, child-writes, hub-writes}
+use Rattle.usb_model.proofs.Record.{walk_long}
+use Rattle.usb_model.proofs.Budget.{Known, place, Knows, Keeps, Wrote, Plain, plain_writes, most_writes, child_writes, hub_writes}
 
 -- ---- the steps
 
@@ -38,15 +38,15 @@ low f n h = record { clear = record { past = omega arith; room = omega arith; hu
 high : (f n : ℕ) → (106 < f) × (f + n ≤ 1152) → Plain f n
 high f n h = record { clear = record { past = omega arith; room = h.1; hub = inr (omega arith) }; ports = inr h.0 }
 
-plain-less : {f m n : ℕ} → m ≤ n → Plain f n → Plain f m
-plain-less h r = record {
+plain_less : {f m n : ℕ} → m ≤ n → Plain f n → Plain f m
+plain_less h r = record {
   clear = record { past = r.clear.past; room = omega (arith, r.clear.room); hub = ⊎_elim (λ x. inl (omega arith)) (λ x. inr x) r.clear.hub };
   ports = ⊎_elim (λ x. inl (omega arith)) (λ x. inr x) r.ports;
 }
 
 nothing_written : (s : List ℕ) (p f : ℕ) → with_bytes s p f [] ≡ s
 unfolding with_bytes
-nothing_written s p f = write-nil s (offset p f)
+nothing_written s p f = write_nil s (offset p f)
 
 -- where delivered bytes may go
 data Fits : Buffer → Type 0 where
@@ -66,19 +66,19 @@ module _ {k : Known} where
   unfolding get
   gets p f = sees _
 
-  gets-number : (p f n : ℕ) → Keeps k 0 (get_number p f n)
+  gets_number : (p f n : ℕ) → Keeps k 0 (get_number p f n)
   unfolding get_number
-  gets-number p f n = sees _
+  gets_number p f n = sees _
 
-  puts-bytes : (p f n : ℕ) (vs : List ℕ) → Plain f n → length vs ≤ n → Keeps k 0 (put_bytes p f vs)
+  puts_bytes : (p f n : ℕ) (vs : List ℕ) → Plain f n → length vs ≤ n → Keeps k 0 (put_bytes p f vs)
   unfolding put_bytes
-  puts-bytes p f n vs r l = writes (λ s. with_bytes s p f vs) (λ s h. plain-writes h p f vs (plain-less l r))
+  puts_bytes p f n vs r l = writes (λ s. with_bytes s p f vs) (λ s h. plain_writes h p f vs (plain_less l r))
 
   pub puts : (p f v : ℕ) → Plain f 1 → Keeps k 0 (put p f v)
-  puts p f v r = puts-bytes p f 1 (v ∷ []) r (omega arith)
+  puts p f v r = puts_bytes p f 1 (v ∷ []) r (omega arith)
 
-  puts-number : (p f n v : ℕ) → Plain f n → Keeps k 0 (put_number p f n v)
-  puts-number p f n v r = puts-bytes p f n (little_endian n v) r (omega (arith, length-le n v))
+  puts_number : (p f n v : ℕ) → Plain f n → Keeps k 0 (put_number p f n v)
+  puts_number p f n v r = puts_bytes p f n (little_endian n v) r (omega (arith, length_le n v))
 
   logs : (action : List ℕ) → Keeps k 0 (log_action action)
   unfolding log_action
@@ -104,7 +104,7 @@ module _ {k : Known} where
   delivers : (p : ℕ) {b : Buffer} (vs : List ℕ) → Fits b → Keeps k 0 (put_bytes p b.field (take b.room vs))
   unfolding put_bytes
   delivers p vs none = writes (λ s. with_bytes s p 0 []) (λ s h. rw (nothing_written s p 0) (record { knows = h; gain = omega arith }))
-  delivers p vs (plain {f} {n} r) = puts-bytes p f n _ r (omega (arith, length-take n vs))
+  delivers p vs (plain {f} {n} r) = puts_bytes p f n _ r (omega (arith, length-take n vs))
 
   -- ---- usbd.rs
 
@@ -112,8 +112,8 @@ module _ {k : Known} where
   unfolding usb_control_message
   messages p address q fits =
       bind (gets p _) λ speed. bind (gets p _) λ size. next (requests _) (bind (takes _) λ o.
-      next (puts-number p error_field 4 _ (low error_field 4 (omega arith))) (next (delivers p o.delivered fits) (
-      next (puts-number p last_transfer_field 4 _ (low last_transfer_field 4 (omega arith))) (next (succeeds _) (gives _)))))
+      next (puts_number p error_field 4 _ (low error_field 4 (omega arith))) (next (delivers p o.delivered fits) (
+      next (puts_number p last_transfer_field 4 _ (low last_transfer_field 4 (omega arith))) (next (succeeds _) (gives _)))))
 
   controls : (p : ℕ) (q : UsbDeviceRequest) {b : Buffer} → Fits b → Keeps k 1 (control p q b)
   unfolding control
@@ -128,16 +128,16 @@ module _ {k : Known} where
   unfolding usb_get_descriptor
   descriptors p recipient type index size minimum fits = reads p _ minimum fits
 
-  device-descriptor : (p minimum : ℕ) → Keeps k 1 (read_device_descriptor p minimum)
+  device_descriptor : (p minimum : ℕ) → Keeps k 1 (read_device_descriptor p minimum)
   unfolding read_device_descriptor
-  device-descriptor p minimum = bind (descriptors p _ _ _ _ _ (plain (low device_descriptor_field 18 (omega arith)))) λ bytes. gives _
+  device_descriptor p minimum = bind (descriptors p _ _ _ _ _ (plain (low device_descriptor_field 18 (omega arith)))) λ bytes. gives _
 
   pub read-device-descriptor : (p : ℕ) → Keeps k 2 (usb_read_device_descriptor p)
   unfolding usb_read_device_descriptor
   read-device-descriptor p =
       bind (gets p _) λ speed. next (puts p _ _ (low max_packet_size0_field 1 (omega arith))) (either (eqb speed 0)
-      (more 2 (next (device-descriptor p 18) skips) (omega arith))
-      (bind (device-descriptor p 8) λ count. whens _ (next (device-descriptor p 18) skips)))
+      (more 2 (next (device_descriptor p 18) skips) (omega arith))
+      (bind (device_descriptor p 8) λ count. whens _ (next (device_descriptor p 18) skips)))
 
   pub set-address : (p address : ℕ) → Keeps k 1 (usb_set_address p address)
   unfolding usb_set_address
@@ -145,9 +145,9 @@ module _ {k : Known} where
       bind (gets p _) λ status. next (whens _ (throws _)) (next (messages p 0 _ none) (next (waits _) (
       next (puts p _ _ (small number_field (omega arith))) (puts p _ _ (small status_field (omega arith))))))
 
-  set-configure : (p value : ℕ) → Keeps k 1 (usb_set_configure p value)
+  set_configure : (p value : ℕ) → Keeps k 1 (usb_set_configure p value)
   unfolding usb_set_configure
-  set-configure p value =
+  set_configure p value =
       bind (gets p _) λ status. next (whens _ (throws _)) (next (controls p _ none) (
       next (puts p _ _ (small configuration_index_field (omega arith))) (puts p _ _ (small status_field (omega arith)))))
 
@@ -156,65 +156,65 @@ module _ {k : Known} where
   configures p index =
       bind (gets p _) λ status. next (whens _ (throws _)) (
       next (descriptors p _ _ _ _ _ (plain (low configuration_descriptor_field 9 (omega arith)))) (
-      bind (gets-number p _ 2) λ total. bind (descriptors p _ _ _ total total none) λ full.
+      bind (gets_number p _ 2) λ total. bind (descriptors p _ _ _ total total none) λ full.
       next (puts p _ _ (small configuration_index_field (omega arith))) (looks _ _ λ w n.
       let kept = bytes_at w.store p interfaces_field record_length in
-      next (puts-bytes p _ record_length _ (high interfaces_field record_length (omega arith))
-      (omega (arith, walk-long full kept, bytes_most w.store p interfaces_field record_length))) (
-      next (succeeds _) (bind (gets p _) λ value. set-configure p value)))))
+      next (puts_bytes p _ record_length _ (high interfaces_field record_length (omega arith))
+      (omega (arith, walk_long full kept, bytes_most w.store p interfaces_field record_length))) (
+      next (succeeds _) (bind (gets p _) λ value. set_configure p value)))))
 
   -- ---- device/hub.rs
 
-  pub get-status : (p : ℕ) → Keeps k 1 (hub_get_status p)
+  pub get_status : (p : ℕ) → Keeps k 1 (hub_get_status p)
   unfolding hub_get_status
-  get-status p = next (reads p _ 4 (plain (low hub_status_field 4 (omega arith)))) skips
+  get_status p = next (reads p _ 4 (plain (low hub_status_field 4 (omega arith)))) skips
 
-  pub change-feature : (p feature port : ℕ) (set : Bool) → Keeps k 1 (hub_change_port_feature p feature port set)
+  pub change_feature : (p feature port : ℕ) (set : Bool) → Keeps k 1 (hub_change_port_feature p feature port set)
   unfolding hub_change_port_feature
-  change-feature p feature port set = next (controls p _ none) skips
+  change_feature p feature port set = next (controls p _ none) skips
 
   -- MaxChildren is at most 10
-  pub power-on : (p : ℕ) → Keeps k 10 (hub_power_on p)
+  pub power_on : (p : ℕ) → Keeps k 10 (hub_power_on p)
   unfolding hub_power_on get
-  power-on p = bind (gets p _) λ data'. whens _ (looks _ _ λ w n. bind (gets p _) λ delay.
-      next (more 10 (eachs _ 0 (λ port _. ignores (change-feature p _ port true))) (omega (arith, n.most p))) (waits _))
+  power_on p = bind (gets p _) λ data'. whens _ (looks _ _ λ w n. bind (gets p _) λ delay.
+      next (more 10 (eachs _ 0 (λ port _. ignores (change_feature p _ port true))) (omega (arith, n.most p))) (waits _))
 
-  pub port-get-status : (p port : ℕ) → port < 10 → Keeps k 1 (hub_port_get_status p port)
+  pub port_get_status : (p port : ℕ) → port < 10 → Keeps k 1 (hub_port_get_status p port)
   unfolding hub_port_get_status
-  port-get-status p port h = next (reads p _ 4 (plain (low (port_status_field port) 4 (omega arith)))) skips
+  port_get_status p port h = next (reads p _ 4 (plain (low (port_status_field port) 4 (omega arith)))) skips
 
   pub port-status : (p port : ℕ) → Keeps k 0 (port_status p port)
   unfolding port_status
-  port-status p port = gets-number p _ 4
+  port-status p port = gets_number p _ 4
 
   await-reset : (n p port : ℕ) → port < 10 → Keeps k n (await_reset n p port)
   unfolding await_reset
   await-reset zero p port h = gives false
   await-reset (suc n) p port h = more (suc n)
-      (next (waits _) (next (port-get-status p port h)
+      (next (waits _) (next (port_get_status p port h)
       (bind (port-status p port) λ status. either (bit c_port_reset status) (more n (gives true) (omega arith)) (await-reset n p port h))))
       (omega arith)
 
   pub reset2 : (p port : ℕ) → port < 10 → Keeps k 24 (hub_port_reset2 p port)
   unfolding hub_port_reset2
   reset2 p port h =
-      next (ignores (change-feature p _ port false)) (next (change-feature p _ port true) (bind (await-reset _ p port h) λ seen.
-      next (change-feature p _ port false) (next (whens _ (throws _)) (waits _))))
+      next (ignores (change_feature p _ port false)) (next (change_feature p _ port true) (bind (await-reset _ p port h) λ seen.
+      next (change_feature p _ port false) (next (whens _ (throws _)) (waits _))))
 
 -- ---- the writes that are not plain
 
-pub puts-most : {k : Known} (p v : ℕ) → p < 32 → v ≤ 10 → Keeps k 0 (put p max_children_field v)
+pub puts_most : {k : Known} (p v : ℕ) → p < 32 → v ≤ 10 → Keeps k 0 (put p max_children_field v)
 unfolding put_bytes
-puts-most p v h l = writes (λ s. with_byte s p max_children_field v) (λ s n. most-writes n p v h l)
+puts_most p v h l = writes (λ s. with_byte s p max_children_field v) (λ s n. most_writes n p v h l)
 
-pub puts-child : {q : ℕ} {b : Bool} (p j v : ℕ) → j < 10 → Keeps (place q b) 0 (put p (child_field j) v)
+pub puts_child : {q : ℕ} {b : Bool} (p j v : ℕ) → j < 10 → Keeps (place q b) 0 (put p (child_field j) v)
 unfolding put_bytes
-puts-child p j v l = writes (λ s. with_byte s p (child_field j) v) (λ s n. child-writes n p j v l)
+puts_child p j v l = writes (λ s. with_byte s p (child_field j) v) (λ s n. child_writes n p j v l)
 
-pub read-hub-descriptor : (p : ℕ) → p < 32 → Keeps (place p false) 2 (hub_read_descriptor p)
+pub read_hub_descriptor : (p : ℕ) → p < 32 → Keeps (place p false) 2 (hub_read_descriptor p)
 unfolding hub_read_descriptor put_bytes
-read-hub-descriptor p h =
+read_hub_descriptor p h =
     bind (descriptors p _ _ _ _ _ none) λ header. bind (gets p _) λ data'.
-    next (whens _ (next (writes (λ s. with_byte s p hub_field 2) (λ s n. hub-writes n 2 h (omega arith)))
-    (puts-bytes p hub_descriptor_field 9 _ (low hub_descriptor_field 9 (omega arith)) (omega arith)))) (
+    next (whens _ (next (writes (λ s. with_byte s p hub_field 2) (λ s n. hub_writes n 2 h (omega arith)))
+    (puts_bytes p hub_descriptor_field 9 _ (low hub_descriptor_field 9 (omega arith)) (omega arith)))) (
     next (descriptors p _ _ _ _ _ (plain (low hub_descriptor_field 9 (omega arith)))) skips)

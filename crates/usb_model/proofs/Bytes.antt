@@ -9,61 +9,61 @@ use Rattle.usb_store.specs.Access.{write, byte_at, bytes_at, offset, with_bytes}
 use Rattle.usb_device.specs.Device.{new_device, repeat, blank}
 use Rattle.usb_model.specs.Kept.{Bytes}
 
-pub bytes-nil : Bytes []
-bytes-nil = record { below = λ i. omega arith }
+pub bytes_nil : Bytes []
+bytes_nil = record { below = λ i. omega arith }
 
-pub bytes-cons : {x : ℕ} {l : List ℕ} → x < 256 → Bytes l → Bytes (x ∷ l)
-bytes-cons {x} {l} h b = record { below = go }
+pub bytes_cons : {x : ℕ} {l : List ℕ} → x < 256 → Bytes l → Bytes (x ∷ l)
+bytes_cons {x} {l} h b = record { below = go }
   where
     go : (i : ℕ) → get_or (x ∷ l) i 0 < 256
     go zero = h
     go (suc i) = b.below i
 
 pub bytes_one : {x : ℕ} → x < 256 → Bytes (x ∷ [])
-bytes_one h = bytes-cons h bytes-nil
+bytes_one h = bytes_cons h bytes_nil
 
-bytes-head : {x : ℕ} {l : List ℕ} → Bytes (x ∷ l) → x < 256
-bytes-head b = b.below 0
+bytes_head : {x : ℕ} {l : List ℕ} → Bytes (x ∷ l) → x < 256
+bytes_head b = b.below 0
 
-bytes-tail : {x : ℕ} {l : List ℕ} → Bytes (x ∷ l) → Bytes l
-bytes-tail b = record { below = λ i. b.below (suc i) }
+bytes_tail : {x : ℕ} {l : List ℕ} → Bytes (x ∷ l) → Bytes l
+bytes_tail b = record { below = λ i. b.below (suc i) }
 
-pub bytes-append : {l m : List ℕ} → Bytes l → Bytes m → Bytes (l ++ m)
-bytes-append {l} {m} b c = go l b
+pub bytes_append : {l m : List ℕ} → Bytes l → Bytes m → Bytes (l ++ m)
+bytes_append {l} {m} b c = go l b
   where
     go : (l : List ℕ) → Bytes l → Bytes (l ++ m)
     go [] b = c
-    go (x ∷ l) b = bytes-cons (bytes-head b) (go l (bytes-tail b))
+    go (x ∷ l) b = bytes_cons (bytes_head b) (go l (bytes_tail b))
 
 pub filled : (x : ℕ) → x < 256 → (n : ℕ) → Bytes (replicate n x)
-filled x h zero = bytes-nil
-filled x h (suc n) = bytes-cons h (filled x h n)
+filled x h zero = bytes_nil
+filled x h (suc n) = bytes_cons h (filled x h n)
 
 pub zeros : (n : ℕ) → Bytes (replicate n 0)
 zeros n = filled 0 (omega arith) n
 
-pub bytes-write : (s : List ℕ) (i : ℕ) (vs : List ℕ) → Bytes s → Bytes vs → Bytes (write s i vs)
-bytes-write [] i vs b c = b
-bytes-write (x ∷ s) (suc i) vs b c = bytes-cons (bytes-head b) (bytes-write s i vs (bytes-tail b) c)
-bytes-write (x ∷ s) zero [] b c = b
-bytes-write (x ∷ s) zero (v ∷ vs) b c = bytes-cons (bytes-head c) (bytes-write s zero vs (bytes-tail b) (bytes-tail c))
+pub bytes_write : (s : List ℕ) (i : ℕ) (vs : List ℕ) → Bytes s → Bytes vs → Bytes (write s i vs)
+bytes_write [] i vs b c = b
+bytes_write (x ∷ s) (suc i) vs b c = bytes_cons (bytes_head b) (bytes_write s i vs (bytes_tail b) c)
+bytes_write (x ∷ s) zero [] b c = b
+bytes_write (x ∷ s) zero (v ∷ vs) b c = bytes_cons (bytes_head c) (bytes_write s zero vs (bytes_tail b) (bytes_tail c))
 
 pub bytes_take : (n : ℕ) (l : List ℕ) → Bytes l → Bytes (take n l)
-bytes_take zero l b = bytes-nil
+bytes_take zero l b = bytes_nil
 bytes_take (suc n) [] b = b
-bytes_take (suc n) (x ∷ l) b = bytes-cons (bytes-head b) (bytes_take n l (bytes-tail b))
+bytes_take (suc n) (x ∷ l) b = bytes_cons (bytes_head b) (bytes_take n l (bytes_tail b))
 
 pub bytes_drop : (n : ℕ) (l : List ℕ) → Bytes l → Bytes (drop n l)
 bytes_drop zero l b = b
 bytes_drop (suc n) [] b = b
-bytes_drop (suc n) (x ∷ l) b = bytes_drop n l (bytes-tail b)
+bytes_drop (suc n) (x ∷ l) b = bytes_drop n l (bytes_tail b)
 
 pub bytes_le : (n v : ℕ) → Bytes (little_endian n v)
 bytes_le n v = record { below = le_below n v }
 
-pub bytes-with : (s : List ℕ) (p f : ℕ) (vs : List ℕ) → Bytes s → Bytes vs → Bytes (with_bytes s p f vs)
+pub bytes_with : (s : List ℕ) (p f : ℕ) (vs : List ℕ) → Bytes s → Bytes vs → Bytes (with_bytes s p f vs)
 unfolding with_bytes
-bytes-with s p f vs b c = bytes-write s (offset p f) vs b c
+bytes_with s p f vs b c = bytes_write s (offset p f) vs b c
 
 pub bytes-at : (s : List ℕ) (p f n : ℕ) → Bytes s → Bytes (bytes_at s p f n)
 unfolding bytes_at
@@ -73,21 +73,21 @@ pub byte-at : (s : List ℕ) (p f : ℕ) → Bytes s → byte_at s p f < 256
 unfolding byte_at
 byte-at s p f b = b.below (offset p f)
 
-bytes-repeat : (n : ℕ) {l : List ℕ} → Bytes l → Bytes (repeat n l)
-bytes-repeat zero b = bytes-nil
-bytes-repeat (suc n) b = bytes-append b (bytes-repeat n b)
+bytes_repeat : (n : ℕ) {l : List ℕ} → Bytes l → Bytes (repeat n l)
+bytes_repeat zero b = bytes_nil
+bytes_repeat (suc n) b = bytes_append b (bytes_repeat n b)
 
-pub bytes-blank : (n : ℕ) → Bytes (blank n)
-bytes-blank n = bytes-cons (omega arith) (bytes-cons (omega arith) (zeros (n - 2)))
+pub bytes_blank : (n : ℕ) → Bytes (blank n)
+bytes_blank n = bytes_cons (omega arith) (bytes_cons (omega arith) (zeros (n - 2)))
 
-pub bytes-new : (place : ℕ) → place < 32 → Bytes (new_device place)
+pub bytes_new : (place : ℕ) → place < 32 → Bytes (new_device place)
 unfolding new_device
-bytes-new place h =
-    bytes-append (bytes-cons (omega arith) (bytes-cons (omega arith)
-    (bytes-cons (omega arith) (bytes-cons (omega arith)
-    (bytes-cons (omega arith) (bytes-cons (omega arith) (bytes-cons (omega arith) (bytes-cons (omega arith) (zeros 8)))))))))
-    (bytes-append (bytes-cons (omega arith) (bytes-cons (omega arith)
-    (bytes-cons (omega arith) (bytes-cons (omega arith)
-    (bytes-cons (omega arith) (bytes-cons (omega arith) (bytes-cons (omega arith) (bytes-cons (omega arith) (zeros 10)))))))))
-    (bytes-append (bytes-blank 9) (bytes-append (zeros 85)
-    (bytes-append (bytes-repeat 8 (bytes-blank 9)) (bytes-append (bytes-repeat 128 (bytes-blank 7)) (zeros 56))))))
+bytes_new place h =
+    bytes_append (bytes_cons (omega arith) (bytes_cons (omega arith)
+    (bytes_cons (omega arith) (bytes_cons (omega arith)
+    (bytes_cons (omega arith) (bytes_cons (omega arith) (bytes_cons (omega arith) (bytes_cons (omega arith) (zeros 8)))))))))
+    (bytes_append (bytes_cons (omega arith) (bytes_cons (omega arith)
+    (bytes_cons (omega arith) (bytes_cons (omega arith)
+    (bytes_cons (omega arith) (bytes_cons (omega arith) (bytes_cons (omega arith) (bytes_cons (omega arith) (zeros 10)))))))))
+    (bytes_append (bytes_blank 9) (bytes_append (zeros 85)
+    (bytes_append (bytes_repeat 8 (bytes_blank 9)) (bytes_append (bytes_repeat 128 (bytes_blank 7)) (zeros 56))))))

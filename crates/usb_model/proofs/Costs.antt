@@ -119,13 +119,13 @@ module _ {S : Type 0} {F : Frame S} where
   either false h f = f
 
   -- where the test decides whether the program runs at all
-  pub whens-true : {k : ℕ} (b : Bool) {m : Program S (Unit {0})} → (b ≡ true → Costs F k m) → Costs F k (when b m)
+  pub whens_true : {k : ℕ} (b : Bool) {m : Program S (Unit {0})} → (b ≡ true → Costs F k m) → Costs F k (when b m)
   unfolding when
-  whens-true true h = h refl
-  whens-true {k} false h = more k skips (omega arith)
+  whens_true true h = h refl
+  whens_true {k} false h = more k skips (omega arith)
 
   pub whens : {k : ℕ} (b : Bool) {m : Program S (Unit {0})} → Costs F k m → Costs F k (when b m)
-  whens b h = whens-true b (λ _. h)
+  whens b h = whens_true b (λ _. h)
 
   -- after a test that refuses
   pub unless : {B : Type 0} {k : ℕ} (b : Bool) (e : ErrorCode) (f : Program S B) → (b ≡ false → Costs F k f)

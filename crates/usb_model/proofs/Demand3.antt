@@ -10,8 +10,8 @@ use Rattle.usb_store.specs.Layout.{store_length, status_field, hub_field}
 use Rattle.usb_store.specs.Access.{byte_at, offset}
 use Rattle.usb_device.specs.Device.{first_unused}
 use Rattle.usb_sound.specs.Sound.{Sound}
-use Rattle.usb_sound.proofs.Decides.{empty-sound}
-use Rattle.usb_place.proofs.Tests.{replicate-zero}
+use Rattle.usb_sound.proofs.Decides.{empty_sound}
+use Rattle.usb_place.proofs.Tests.{replicate_zero}
 use Rattle.usb_model.specs.Programs.{Ran, end_of}
 use Rattle.usb_model.specs.World.{World}
 use Rattle.usb_model.specs.Attach.{attach_new}
@@ -20,18 +20,18 @@ use Rattle.usb_model.specs.Kept.{LentBytes}
 use Rattle.usb_model.specs.History.{Event, Reading, read_log, joined, configures, count}
 use Rattle.usb_model.specs.Demand3.{Call, attaches, scans, checks, verdict, program, entry, Ended, finished, failed, Reached, empty, refusal, ran, ShownConfigured, Stands, Demand3}
 use Rattle.usb_model.proofs.Walks.{Reach, reach_here}
-use Rattle.usb_model.proofs.Cycle.{attach-walks, check-connection, root-hub, check-for-change}
-use Rattle.usb_model.proofs.Accepted.{port-inside, root-accepted, hub-accepted}
-use Rattle.usb_model.proofs.Entries.{start-good}
-use Rattle.usb_model.proofs.Bound.{root-attach-requests}
-use Rattle.usb_model.proofs.Keeps.{Any, Left, left-holds}
-use Rattle.usb_model.proofs.SoundKept.{Stays, hub-place, check-connection-stays, check-for-change-stays, root-hub-stays}
+use Rattle.usb_model.proofs.Cycle.{attach_walks, check_connection, root_hub, check_for_change}
+use Rattle.usb_model.proofs.Accepted.{port_inside, root_accepted, hub_accepted}
+use Rattle.usb_model.proofs.Entries.{start_good}
+use Rattle.usb_model.proofs.Bound.{root_attach_requests}
+use Rattle.usb_model.proofs.Keeps.{Any, Left, left_holds}
+use Rattle.usb_model.proofs.SoundKept.{Stays, hub_place, check_connection_stays, check_for_change_stays, root_hub_stays}
 use Rattle.usb_model.proofs.Reading.{Reads}
 use Rattle.usb_model.proofs.Triples.{State, store, Leads, fine, bad, gone}
 use Rattle.usb_model.proofs.Invariant.{expected, PlaceInv}
 use Rattle.usb_model.proofs.Middle.{Fine}
-use Rattle.usb_model.proofs.Claims.{check-does}
-use Rattle.usb_model.proofs.Attaches.{attach-below-does, scan-does, root_does}
+use Rattle.usb_model.proofs.Claims.{check_does}
+use Rattle.usb_model.proofs.Attaches.{attach_below_does, scan_does, root_does}
 
 -- what holds of a store and its history after a list of calls
 record Kept (s : List ℕ) (h : List Event) : Type 0 where
@@ -41,44 +41,44 @@ record Kept (s : List ℕ) (h : List Event) : Type 0 where
 
 -- ---- the empty store
 
-empty-byte : (p f : ℕ) → byte_at (replicate store_length 0) p f ≡ 0
+empty_byte : (p f : ℕ) → byte_at (replicate store_length 0) p f ≡ 0
 unfolding byte_at
-empty-byte p f = replicate-zero store_length (offset p f)
+empty_byte p f = replicate_zero store_length (offset p f)
 
-empty-kept : Kept (replicate store_length 0) []
+empty_kept : Kept (replicate store_length 0) []
 unfolding count
-empty-kept = record {
-  sound = empty-sound;
+empty_kept = record {
+  sound = empty_sound;
   place = λ p l. record {
-    fresh = λ _. empty-byte p status_field;
-    plain = λ n. absurd (n (empty-byte p hub_field));
-    once = ap expected (sym (empty-byte p status_field));
-    numbered = λ n. absurd (n (empty-byte p hub_field));
-    story = λ e. absurd (omega (arith, e, empty-byte p status_field));
+    fresh = λ _. empty_byte p status_field;
+    plain = λ n. absurd (n (empty_byte p hub_field));
+    once = ap expected (sym (empty_byte p status_field));
+    numbered = λ n. absurd (n (empty_byte p hub_field));
+    story = λ e. absurd (omega (arith, e, empty_byte p status_field));
   };
   belongs = λ n l. absurd (omega arith);
 }
 
 -- ---- the start and the end of a call
 
-reads-start : (lent : Lent) (h : List Event) → Reads h (start lent) h
+reads_start : (lent : Lent) (h : List Event) → Reads h (start lent) h
 unfolding read_log
-reads-start lent h = record { actions = 0; logged = refl; is = refl }
+reads_start lent h = record { actions = 0; logged = refl; is = refl }
 
-abbrev first-state : (lent : Lent) → LentBytes lent → Sound lent.old → (h : List Event) → State h
-first-state lent bytes r h = record { world = start lent; past = h; good = start-good lent bytes r; reads = reads-start lent h }
+abbrev first_state : (lent : Lent) → LentBytes lent → Sound lent.old → (h : List Event) → State h
+first_state lent bytes r h = record { world = start lent; past = h; good = start_good lent bytes r; reads = reads_start lent h }
 
 -- the state in which a run ended
 record EndState (h : List Event) (H : ℕ → Type 0) (w : World) : Type 0 where
   state : State h
   is : state.world ≡ w
-  is-fine : Fine H state
+  is_fine : Fine H state
 
-leads-ended : {h : List Event} {H : ℕ → Type 0} {r : Ran World (Unit {0})} {w : World} → Leads {h₀ = h} (λ _. Fine H) (Fine H) r → Ended r w
+leads_ended : {h : List Event} {H : ℕ → Type 0} {r : Ran World (Unit {0})} {w : World} → Leads {h₀ = h} (λ _. Fine H) (Fine H) r → Ended r w
     → EndState h H w
-leads-ended (fine s f) finished = record { state = s; is = refl; is-fine = f }
-leads-ended (bad s f) failed = record { state = s; is = refl; is-fine = f }
-leads-ended gone e = elim e [ ]
+leads_ended (fine s f) finished = record { state = s; is = refl; is_fine = f }
+leads_ended (bad s f) failed = record { state = s; is = refl; is_fine = f }
+leads_ended gone e = elim e [ ]
 
 left_ended : {r : Ran World (Unit {0})} {w : World} → Ended r w → end_of r ≡ w
 left_ended finished = refl
@@ -94,34 +94,34 @@ joined_is {h} {H} {w} outcomes e o n l =
     rw (← o, same) (ap (λ (x : Reading). x.past) r.is)
 
 -- what a call does, from the first world on
-pub call-walks : (lent : Lent) → LentBytes lent → (c : Call) → verdict c lent ≡ accepted
+pub call_walks : (lent : Lent) → LentBytes lent → (c : Call) → verdict c lent ≡ accepted
     → (m : ℕ) × Left (Reach (start lent) m) Any (program c (start lent))
-call-walks lent bytes (attaches speed) v =
-    let x = root-accepted lent speed v in
-    let here = reach_here {n = 0} (start lent) (start-good lent bytes x.is-sound) (omega arith) in
-    (0, ((root-hub (start lent) speed (omega (arith, x.low))).run (start lent) here).walk)
-call-walks lent bytes (scans hub) v =
-    let x = hub-accepted lent hub false v in
-    let here = reach_here (start lent) (start-good lent bytes x.is-sound) x.first in
-    (hub + 1, ((check-for-change 32 (start lent) 32 hub).run (start lent) here).walk)
-call-walks lent bytes (checks hub port) v =
-    let x = hub-accepted lent hub (no_port port) v in
-    let here = reach_here (start lent) (start-good lent bytes x.is-sound) x.first in
-    let low = port-inside port x.good in
-    let walks = check-connection attach_new attach_new (λ v _. attach-walks 32 v) {n = hub + 1} hub port (omega arith) low in
+call_walks lent bytes (attaches speed) v =
+    let x = root_accepted lent speed v in
+    let here = reach_here {n = 0} (start lent) (start_good lent bytes x.is_sound) (omega arith) in
+    (0, ((root_hub (start lent) speed (omega (arith, x.low))).run (start lent) here).walk)
+call_walks lent bytes (scans hub) v =
+    let x = hub_accepted lent hub false v in
+    let here = reach_here (start lent) (start_good lent bytes x.is_sound) x.first in
+    (hub + 1, ((check_for_change 32 (start lent) 32 hub).run (start lent) here).walk)
+call_walks lent bytes (checks hub port) v =
+    let x = hub_accepted lent hub (no_port port) v in
+    let here = reach_here (start lent) (start_good lent bytes x.is_sound) x.first in
+    let low = port_inside port x.good in
+    let walks = check_connection attach_new attach_new (λ v _. attach_walks 32 v) {n = hub + 1} hub port (omega arith) low in
     (hub + 1, (walks.run (start lent) here).walk)
 
 module _ (lent : Lent) (bytes : LentBytes lent) {h : List Event} (k : Kept lent.old h) {w : World}
     (c : Call) (v : verdict c lent ≡ accepted) (ends : Ended (program c (start lent)) w) where
   -- a run that is claimed, walks and stays sound
-  kept-ran : {H : ℕ → Type 0} → Leads {h₀ = h} (λ _. Fine H) (Fine H) (program c (start lent)) → Stays (program c) (start lent)
+  kept_ran : {H : ℕ → Type 0} → Leads {h₀ = h} (λ _. Fine H) (Fine H) (program c (start lent)) → Stays (program c) (start lent)
       → (n : ℕ) → w.at.logged ≡ 16 * n
       → Kept w.store (joined n w.log lent.outcomes h)
-  kept-ran {H} x z n l =
-      let e = leads-ended x ends in
-      let y = call-walks lent bytes c v in
-      let o = (subst (Reach (start lent) y.0) (left_ended ends) (left-holds y.1)).onward in
-      let i = e.is-fine.inv in
+  kept_ran {H} x z n l =
+      let e = leads_ended x ends in
+      let y = call_walks lent bytes c v in
+      let o = (subst (Reach (start lent) y.0) (left_ended ends) (left_holds y.1)).onward in
+      let i = e.is_fine.inv in
       let past : e.state.past ≡ joined n w.log lent.outcomes h = sym (joined_is lent.outcomes e o.outcomes n l) in
       let same : store e.state ≡ w.store = ap (λ (v : World). v.store) e.is in
       record {
@@ -136,9 +136,9 @@ module _ (lent : Lent) (bytes : LentBytes lent) {h : List Event} (k : Kept lent.
 -- ---- a list of calls
 
 -- the hub that a call names is known
-hub-fine : (lent : Lent) (bytes : LentBytes lent) (r : Sound lent.old) {h : List Event} → Kept lent.old h → (hub : ℕ)
-    → byte_at lent.old hub hub_field ≢ 0 → hub + 1 ≤ first_unused lent.old → Fine (λ q. q ≡ hub) (first-state lent bytes r h)
-hub-fine lent bytes r k hub n l = record {
+hub_fine : (lent : Lent) (bytes : LentBytes lent) (r : Sound lent.old) {h : List Event} → Kept lent.old h → (hub : ℕ)
+    → byte_at lent.old hub hub_field ≢ 0 → hub + 1 ≤ first_unused lent.old → Fine (λ q. q ≡ hub) (first_state lent bytes r h)
+hub_fine lent bytes r k hub n l = record {
   inv = record { place = λ p m _. k.place p m; belongs = λ a _ m. k.belongs a m };
   known = record {
     hubs = λ q e z. n (ap (λ (p : ℕ). byte_at lent.old p hub_field) (sym e) ∙ z);
@@ -146,37 +146,37 @@ hub-fine lent bytes r k hub n l = record {
   };
 }
 
-kept-call : (lent : Lent) (bytes : LentBytes lent) {h : List Event} → Kept lent.old h → {w : World} (c : Call)
+kept_call : (lent : Lent) (bytes : LentBytes lent) {h : List Event} → Kept lent.old h → {w : World} (c : Call)
     → verdict c lent ≡ accepted → Ended (program c (start lent)) w → (n : ℕ) → w.at.logged ≡ 16 * n
     → Kept w.store (joined n w.log lent.outcomes h)
-kept-call lent bytes {h} k (attaches speed) v e n l =
-    let x = root-accepted lent speed v in
-    let s = first-state lent bytes x.is-sound h in
-    kept-ran lent bytes k (attaches speed) v e
+kept_call lent bytes {h} k (attaches speed) v e n l =
+    let x = root_accepted lent speed v in
+    let s = first_state lent bytes x.is_sound h in
+    kept_ran lent bytes k (attaches speed) v e
     ((root_does speed (omega (arith, x.low))).run s (record {
       inv = record { place = λ p m _. k.place p m; belongs = λ a _ m. k.belongs a m };
       unused = x.unused;
     }))
-    (root-hub-stays (start lent) x.is-sound x.unused speed x.low) n l
-kept-call lent bytes {h} k (scans hub) v e n l =
-    let x = hub-accepted lent hub false v in
-    let s = first-state lent bytes x.is-sound h in
-    kept-ran lent bytes k (scans hub) v e
-    ((scan-does 32 32 hub (λ q. q ≡ hub) refl x.inside).run s (hub-fine lent bytes x.is-sound k hub x.is-hub x.first))
-    (check-for-change-stays (start lent) x.is-sound (hub-place x.is-sound x.inside x.is-hub) 32 32) n l
-kept-call lent bytes {h} k (checks hub port) v e n l =
-    let x = hub-accepted lent hub (no_port port) v in
-    let s = first-state lent bytes x.is-sound h in
-    let low = port-inside port x.good in
-    kept-ran lent bytes k (checks hub port) v e
-    ((check-does (λ q. q ≡ hub) hub port refl x.inside low attach_new (attach-below-does 32)).run s
-    (hub-fine lent bytes x.is-sound k hub x.is-hub x.first))
-    (check-connection-stays (start lent) x.is-sound (hub-place x.is-sound x.inside x.is-hub) 32 port low) n l
+    (root_hub_stays (start lent) x.is_sound x.unused speed x.low) n l
+kept_call lent bytes {h} k (scans hub) v e n l =
+    let x = hub_accepted lent hub false v in
+    let s = first_state lent bytes x.is_sound h in
+    kept_ran lent bytes k (scans hub) v e
+    ((scan_does 32 32 hub (λ q. q ≡ hub) refl x.inside).run s (hub_fine lent bytes x.is_sound k hub x.is-hub x.first))
+    (check_for_change_stays (start lent) x.is_sound (hub_place x.is_sound x.inside x.is-hub) 32 32) n l
+kept_call lent bytes {h} k (checks hub port) v e n l =
+    let x = hub_accepted lent hub (no_port port) v in
+    let s = first_state lent bytes x.is_sound h in
+    let low = port_inside port x.good in
+    kept_ran lent bytes k (checks hub port) v e
+    ((check_does (λ q. q ≡ hub) hub port refl x.inside low attach_new (attach_below_does 32)).run s
+    (hub_fine lent bytes x.is_sound k hub x.is-hub x.first))
+    (check_connection_stays (start lent) x.is_sound (hub_place x.is_sound x.inside x.is-hub) 32 port low) n l
 
 kept : {s : List ℕ} {h : List Event} → Reached s h → Kept s h
-kept empty = empty-kept
+kept empty = empty_kept
 kept (refusal r c lent e n) = kept r
-kept (ran {s} {h} r c lent e b v end n l) = kept-call lent b (subst (λ (t : List ℕ). Kept t h) (sym e) (kept r)) c v end n l
+kept (ran {s} {h} r c lent e b v end n l) = kept_call lent b (subst (λ (t : List ℕ). Kept t h) (sym e) (kept r)) c v end n l
 
 -- ---- the claim
 
@@ -201,25 +201,25 @@ demand3 s h r =
         single = single k.sound;
         belongs = k.belongs;
       },
-      λ speed lent e b. root-attach-requests lent b speed,
+      λ speed lent e b. root_attach_requests lent b speed,
     )
 
 -- ---- what the list's calls leave is what the entry points leave
 
-pub attaches-is : (speed : ℕ) (lent : Lent) → entry (attaches speed) lent ≡ root_attach speed lent
+pub attaches_is : (speed : ℕ) (lent : Lent) → entry (attaches speed) lent ≡ root_attach speed lent
 unfolding root_attach
-attaches-is speed lent = refl
+attaches_is speed lent = refl
 
-pub scans-is : (hub : ℕ) (lent : Lent) → entry (scans hub) lent ≡ scan hub lent
+pub scans_is : (hub : ℕ) (lent : Lent) → entry (scans hub) lent ≡ scan hub lent
 unfolding scan
-scans-is hub lent = refl
+scans_is hub lent = refl
 
-pub checks-is : (hub port : ℕ) (lent : Lent) → entry (checks hub port) lent ≡ port_check hub port lent
+pub checks_is : (hub port : ℕ) (lent : Lent) → entry (checks hub port) lent ≡ port_check hub port lent
 unfolding port_check
-checks-is hub port lent = refl
+checks_is hub port lent = refl
 
 -- where a call that is accepted ends in the world w, it leaves the store and the log of w, and reports its count
-pub leaves-ended : (c : Call) (lent : Lent) {w : World} → verdict c lent ≡ accepted → Ended (program c (start lent)) w
+pub leaves_ended : (c : Call) (lent : Lent) {w : World} → verdict c lent ≡ accepted → Ended (program c (start lent)) w
     → ((entry c lent).new ≡ w.store) × ((entry c lent).log ≡ w.log) × ((entry c lent).requests ≡ w.at.requests)
 unfolding call
-leaves-ended c lent {w} v e = rw (v, left_ended e) (refl, refl, refl)
+leaves_ended c lent {w} v e = rw (v, left_ended e) (refl, refl, refl)

@@ -22,21 +22,21 @@ use Rattle.usb_types.specs.declared.types.Refusal.TheVariants.{BadArgument, Stor
 use Rattle.usb_store.specs.Layout.{store_length, child_field, max_children_field}
 use Rattle.usb_store.specs.Access.{byte_at}
 use Rattle.usb_sound.specs.Sound.{Sound}
-use Rattle.usb_sound.proofs.Hubs.{child-below, used-leads}
+use Rattle.usb_sound.proofs.Hubs.{child_below, used_leads}
 use Rattle.usb_model.specs.Programs.{Ran}
 use Rattle.usb_model.specs.World.{World, M}
 use Rattle.usb_model.specs.Walk.{record_length, walk}
 use Rattle.usb_model.specs.Attach.{attach_new, usb_attach_root_hub}
 use Rattle.usb_model.specs.Entry.{Lent, Verdict, accepted, refused, is_unused, no_port, root_verdict, hub_verdict, start, leaves, answered, call, root_attach, scan, port_check, child_reset, child_check, retried_reset, connection_change, configuration_walk}
 use Rattle.usb_model.specs.Kept.{Bytes, kinds_in, Above, Good, Onward, Listed, LentBytes, Accounts, WalkAccounts}
-use Rattle.usb_model.proofs.Accepted.{port-inside, root-accepted, hub-accepted}
-use Rattle.usb_model.proofs.Keeps.{Any, Left, is-done, is-failed, is-halted}
-use Rattle.usb_model.proofs.Onward.{long, log-length, later-kept, kinds-logged, requests-logged}
+use Rattle.usb_model.proofs.Accepted.{port_inside, root_accepted, hub_accepted}
+use Rattle.usb_model.proofs.Keeps.{Any, Left, is-done, is_failed, is_halted}
+use Rattle.usb_model.proofs.Onward.{long, log-length, later_kept, kinds_logged, requests_logged}
 use Rattle.usb_model.proofs.Walks.{Reach, reach_here}
-use Rattle.usb_model.proofs.Record.{walk-long, walk-bytes}
+use Rattle.usb_model.proofs.Record.{walk_long, walk_bytes}
 use Rattle.usb_model.proofs.Functions.{child-reset, reset}
 use Rattle.usb_model.proofs.Pairs.{Alike, one}
-use Rattle.usb_model.proofs.Cycle.{attach-walks, connection-changed, check-connection, check-device, root-hub, check-for-change}
+use Rattle.usb_model.proofs.Cycle.{attach_walks, connection_changed, check_connection, check_device, root_hub, check_for_change}
 
 -- ---- a sound store is good
 
@@ -46,8 +46,8 @@ unfolding byte_at
 outside s h f whole l = get_or-eq_default s 0 (omega arith)
 
 module _ (lent : Lent) (bytes : LentBytes lent) (r : Sound lent.old) where
-  pub start-good : Good (start lent)
-  start-good = record {
+  pub start_good : Good (start lent)
+  start_good = record {
     whole = r.whole;
     logged = omega arith;
     taken = omega arith;
@@ -64,8 +64,8 @@ module _ (lent : Lent) (bytes : LentBytes lent) (r : Sound lent.old) where
 
       child : (h q : ℕ) → q < 10 → byte_at lent.old h (child_field q) ≢ 0 → Dec (h < 32) → Above lent.old h q
       child h q l n (yes m) =
-          let b = child-below lent.old r h q m l n in
-          record { above = omega (arith, b.above, n); used = omega (arith, used-leads lent.old r _ (b.inside, b.used), n) }
+          let b = child_below lent.old r h q m l n in
+          record { above = omega (arith, b.above, n); used = omega (arith, used_leads lent.old r _ (b.inside, b.used), n) }
       child h q l n (no m) = absurd (n (outside lent.old h (child_field q) r.whole (omega arith)))
 
 -- ---- answers of the table
@@ -86,21 +86,21 @@ error-listed Disconnected = listed 9 (omega arith)
 error-listed GarbledConfiguration = listed 10 (omega arith)
 error-listed BusFull = listed 11 (omega arith)
 
-halt-listed : (h : Halt) → Listed (halt_number h)
-halt-listed GarbledOutcome = listed 13 (omega arith)
-halt-listed OutcomesSpent = listed 14 (omega arith)
-halt-listed LogFull = listed 15 (omega arith)
+halt_listed : (h : Halt) → Listed (halt_number h)
+halt_listed GarbledOutcome = listed 13 (omega arith)
+halt_listed OutcomesSpent = listed 14 (omega arith)
+halt_listed LogFull = listed 15 (omega arith)
 
-answer-listed : (a : Answer) → Listed (answer_number a)
-answer-listed Ok = listed 0 (omega arith)
-answer-listed (Error e) = error-listed e
-answer-listed (Stop h) = halt-listed h
+answer_listed : (a : Answer) → Listed (answer_number a)
+answer_listed Ok = listed 0 (omega arith)
+answer_listed (Error e) = error-listed e
+answer_listed (Stop h) = halt_listed h
 
-refusal-listed : (r : Refusal) → Listed (refusal_number r)
-refusal-listed BadArgument = listed 2 (omega arith)
-refusal-listed StoreDamaged = listed 16 (omega arith)
-refusal-listed AlreadyAttached = listed 4 (omega arith)
-refusal-listed RootSpeed = listed 12 (omega arith)
+refusal_listed : (r : Refusal) → Listed (refusal_number r)
+refusal_listed BadArgument = listed 2 (omega arith)
+refusal_listed StoreDamaged = listed 16 (omega arith)
+refusal_listed AlreadyAttached = listed 4 (omega arith)
+refusal_listed RootSpeed = listed 12 (omega arith)
 
 -- ---- what is left
 
@@ -109,35 +109,35 @@ module _ (lent : Lent) (bytes : LentBytes lent) where
       → Accounts lent (leaves answer v)
   leaves_of a e o g = record {
     answer = a;
-    new-length = o.store ∙ sym e;
-    new-bytes = g.store;
+    new_length = o.store ∙ sym e;
+    new_bytes = g.store;
     log-length = log-length o refl g.logged;
-    log-bytes = g.log;
+    log_bytes = g.log;
     actions = o.actions;
     room = long o refl g.logged;
-    later = later-kept o refl g.logged;
-    kinds = kinds-logged o refl g.logged;
-    requests = requests-logged o refl g.logged refl;
+    later = later_kept o refl g.logged;
+    kinds = kinds_logged o refl g.logged;
+    requests = requests_logged o refl g.logged refl;
   }
 
-  answered-of : {n : ℕ} {r : Ran World (Unit {0})} → length lent.new ≡ length lent.old → Left (Reach (start lent) n) Any r
+  answered_of : {n : ℕ} {r : Ran World (Unit {0})} → length lent.new ≡ length lent.old → Left (Reach (start lent) n) Any r
       → Accounts lent (answered r)
-  answered-of e (is-done x q) = leaves_of (listed 0 (omega arith)) e x.onward x.good
-  answered-of l (is-failed {e} x) = leaves_of (error-listed e) l x.onward x.good
-  answered-of l (is-halted {h} x) = leaves_of (halt-listed h) l x.onward x.good
+  answered_of e (is-done x q) = leaves_of (listed 0 (omega arith)) e x.onward x.good
+  answered_of l (is_failed {e} x) = leaves_of (error-listed e) l x.onward x.good
+  answered_of l (is_halted {h} x) = leaves_of (halt_listed h) l x.onward x.good
 
   -- a call that is refused, or runs
   called : {n : ℕ} (v : Verdict) (m : M (Unit {0}))
       → (v ≡ accepted → (length lent.new ≡ length lent.old) × Left (Reach (start lent) n) Any (m (start lent)))
       → Accounts lent (call lent v m)
   unfolding call kinds_in
-  called accepted m h = answered-of (h refl).0 (h refl).1
+  called accepted m h = answered_of (h refl).0 (h refl).1
   called (refused r) m h = record {
-    answer = refusal-listed r;
-    new-length = refl;
-    new-bytes = bytes.new;
+    answer = refusal_listed r;
+    new_length = refl;
+    new_bytes = bytes.new;
     log-length = refl;
-    log-bytes = bytes.log;
+    log_bytes = bytes.log;
     actions = 0;
     room = omega arith;
     later = refl;
@@ -149,58 +149,58 @@ module _ (lent : Lent) (bytes : LentBytes lent) where
 
 module _ (lent : Lent) (bytes : LentBytes lent) where
   -- an entry that names a hub: its program walks where the hub is known, and the other arguments are good
-  of-hub : (hub : ℕ) (bad : Bool) (m : M (Unit {0})) → (bad ≡ false → Alike (start lent) (hub + 1) m m)
+  of_hub : (hub : ℕ) (bad : Bool) (m : M (Unit {0})) → (bad ≡ false → Alike (start lent) (hub + 1) m m)
       → Accounts lent (call lent (hub_verdict lent hub bad) m)
-  of-hub hub bad m h = called lent bytes _ m (λ e.
-      let x = hub-accepted lent hub bad e in
-      (x.lengths, ((h x.good).run (start lent) (reach_here (start lent) (start-good lent bytes x.is-sound) x.first)).walk))
+  of_hub hub bad m h = called lent bytes _ m (λ e.
+      let x = hub_accepted lent hub bad e in
+      (x.lengths, ((h x.good).run (start lent) (reach_here (start lent) (start_good lent bytes x.is_sound) x.first)).walk))
 
-  pub root-attach-accounts : (speed : ℕ) → Accounts lent (root_attach speed lent)
+  pub root_attach_accounts : (speed : ℕ) → Accounts lent (root_attach speed lent)
   unfolding root_attach
-  root-attach-accounts speed = called lent bytes (root_verdict lent speed) (usb_attach_root_hub speed) (λ e.
-      let x = root-accepted lent speed e in (
+  root_attach_accounts speed = called lent bytes (root_verdict lent speed) (usb_attach_root_hub speed) (λ e.
+      let x = root_accepted lent speed e in (
         x.lengths,
-        ((root-hub (start lent) speed (omega (arith, x.low))).run (start lent)
-            (reach_here (start lent) (start-good lent bytes x.is-sound) (omega arith))).walk,
+        ((root_hub (start lent) speed (omega (arith, x.low))).run (start lent)
+            (reach_here (start lent) (start_good lent bytes x.is_sound) (omega arith))).walk,
       ))
 
-  pub scan-accounts : (hub : ℕ) → Accounts lent (scan hub lent)
+  pub scan_accounts : (hub : ℕ) → Accounts lent (scan hub lent)
   unfolding scan
-  scan-accounts hub = of-hub hub false _ (λ _. check-for-change 32 (start lent) 32 hub)
+  scan_accounts hub = of_hub hub false _ (λ _. check_for_change 32 (start lent) 32 hub)
 
-  pub port-check-accounts : (hub port : ℕ) → Accounts lent (port_check hub port lent)
+  pub port_check_accounts : (hub port : ℕ) → Accounts lent (port_check hub port lent)
   unfolding port_check
-  port-check-accounts hub port =
-      of-hub hub (no_port port) _
-      (λ e. check-connection attach_new attach_new (λ v _. attach-walks 32 v) hub port (omega arith) (port-inside port e))
+  port_check_accounts hub port =
+      of_hub hub (no_port port) _
+      (λ e. check_connection attach_new attach_new (λ v _. attach_walks 32 v) hub port (omega arith) (port_inside port e))
 
-  pub connection-change-accounts : (hub port : ℕ) → Accounts lent (connection_change hub port lent)
+  pub connection_change_accounts : (hub port : ℕ) → Accounts lent (connection_change hub port lent)
   unfolding connection_change
-  connection-change-accounts hub port =
-      of-hub hub (no_port port) _
-      (λ e. connection-changed attach_new attach_new (λ v _. attach-walks 32 v) hub port (omega arith) (port-inside port e))
+  connection_change_accounts hub port =
+      of_hub hub (no_port port) _
+      (λ e. connection_changed attach_new attach_new (λ v _. attach_walks 32 v) hub port (omega arith) (port_inside port e))
 
-  pub child-check-accounts : (hub child : ℕ) → Accounts lent (child_check hub child lent)
+  pub child_check_accounts : (hub child : ℕ) → Accounts lent (child_check hub child lent)
   unfolding child_check
-  child-check-accounts hub child =
-      of-hub hub (is_unused lent child) _ (λ _. check-device attach_new attach_new (λ v _. attach-walks 32 v) hub child (omega arith))
+  child_check_accounts hub child =
+      of_hub hub (is_unused lent child) _ (λ _. check_device attach_new attach_new (λ v _. attach_walks 32 v) hub child (omega arith))
 
-  pub child-reset-accounts : (hub child : ℕ) → Accounts lent (child_reset hub child lent)
+  pub child_reset_accounts : (hub child : ℕ) → Accounts lent (child_reset hub child lent)
   unfolding child_reset
-  child-reset-accounts hub child = of-hub hub (is_unused lent child) _ (λ _. one (child-reset hub child))
+  child_reset_accounts hub child = of_hub hub (is_unused lent child) _ (λ _. one (child-reset hub child))
 
-  pub retried-reset-accounts : (hub port : ℕ) → Accounts lent (retried_reset hub port lent)
+  pub retried_reset_accounts : (hub port : ℕ) → Accounts lent (retried_reset hub port lent)
   unfolding retried_reset
-  retried-reset-accounts hub port = of-hub hub (no_port port) _ (λ e. one (reset hub port (port-inside port e)))
+  retried_reset_accounts hub port = of_hub hub (no_port port) _ (λ e. one (reset hub port (port_inside port e)))
 
-pub walk-accounts : (descriptors kept : List ℕ) → Bytes descriptors → Bytes kept → WalkAccounts kept (configuration_walk descriptors kept)
+pub walk_accounts : (descriptors kept : List ℕ) → Bytes descriptors → Bytes kept → WalkAccounts kept (configuration_walk descriptors kept)
 unfolding configuration_walk
-walk-accounts d kept b c = go (ltb 65535 (length d) || not (eqb (length kept) record_length))
+walk_accounts d kept b c = go (ltb 65535 (length d) || not (eqb (length kept) record_length))
   where
     go : (bad : Bool)
         → WalkAccounts kept (cond bad (record { answer = refusal_number BadArgument; kept = kept }) (record {
           answer = answer_number (walk d kept).answer;
           kept = (walk d kept).kept;
         }))
-    go true = record { answer = refusal-listed BadArgument; kept-length = refl; kept-bytes = c }
-    go false = record { answer = answer-listed (walk d kept).answer; kept-length = walk-long d kept; kept-bytes = walk-bytes d kept b c }
+    go true = record { answer = refusal_listed BadArgument; kept_length = refl; kept_bytes = c }
+    go false = record { answer = answer_listed (walk d kept).answer; kept_length = walk_long d kept; kept_bytes = walk_bytes d kept b c }

@@ -8,15 +8,15 @@ use lib.Seq.{drop-drop}
 use Rattle.usb_types.specs.Actions.{request_action, wait_action, frame_interval_action}
 use Rattle.usb_types.specs.declared.request.UsbDeviceRequest.{UsbDeviceRequest}
 use Rattle.usb_types.specs.declared.pipe.UsbPipeAddress.{UsbPipeAddress}
-use Rattle.usb_types.proofs.Lengths.{request-length, wait-length, frame-length}
+use Rattle.usb_types.proofs.Lengths.{request_length, wait_length, frame_length}
 use Rattle.usb_model.specs.Programs.{Ran, on, ◌>>=◌, ◌>>◌}
 use Rattle.usb_model.specs.World.{World, M, log_action, log_request, micro_delay, dwc_update_host_frame_interval}
 use Rattle.usb_model.specs.Transfer.{Outcome, taken, outcomes_left, size_of, outcome_of, take_outcome}
 use Rattle.usb_model.specs.Kept.{Bytes}
 use Rattle.usb_model.specs.History.{Event, asked, waited, framed, Reading, reading, read_action}
-use Rattle.usb_model.proofs.Primitives.{wait-bytes, frame-bytes, log-good, took-good, delivered-bytes}
-use Rattle.usb_model.proofs.Reading.{reads_more, reads-wait, reads-frame, reads-request, TwoBytes}
-use Rattle.usb_model.proofs.Ways.{logged_world, Logs, full, logged, log-ends, request-ends, Takes, missing, whole, take_ends}
+use Rattle.usb_model.proofs.Primitives.{wait_bytes, frame_bytes, log_good, took_good, delivered_bytes}
+use Rattle.usb_model.proofs.Reading.{reads_more, reads_wait, reads_frame, reads_request, TwoBytes}
+use Rattle.usb_model.proofs.Ways.{logged_world, Logs, full, logged, log_ends, request_ends, Takes, missing, whole, take_ends}
 use Rattle.usb_model.proofs.Triples.{State, store, Leads, fine, gone, Does}
 
 module _ {h₀ : List Event} where
@@ -28,35 +28,35 @@ module _ {h₀ : List Event} where
     pub past : t.past ≡ e ∷ before.past
 
   -- the state with one action logged
-  abbrev with-action : (s : State h₀) (action : List ℕ) (e : Event) → length action ≡ 16 → Bytes action
+  abbrev with_action : (s : State h₀) (action : List ℕ) (e : Event) → length action ≡ 16 → Bytes action
       → ((r : Reading) → read_action action r ≡ reading (e ∷ r.past) r.rest) → s.world.at.logged + 16 ≤ length s.world.log
       → State h₀
-  with-action s action e long b reads room = record {
+  with_action s action e long b reads room = record {
     world = logged_world s.world action s.world.at.requests;
     past = e ∷ s.past;
-    good = log-good action s.world.at.requests b room s.good;
+    good = log_good action s.world.at.requests b room s.good;
     reads = reads_more action s.world.at.taken s.world.at.requests s.reads long room (reads _);
   }
 
-  action-adds : {P N : State h₀ → Type 0} (action : List ℕ) (e : Event) → length action ≡ 16 → Bytes action
+  action_adds : {P N : State h₀ → Type 0} (action : List ℕ) (e : Event) → length action ≡ 16 → Bytes action
       → ((r : Reading) → read_action action r ≡ reading (e ∷ r.past) r.rest) → Does P (log_action action) (λ _. Added P e) N
-  action-adds {P} {N} action e long b reads = record { run = λ s p. go s p (log-ends action s.world) }
+  action_adds {P} {N} action e long b reads = record { run = λ s p. go s p (log_ends action s.world) }
     where
       go : (s : State h₀) → P s → {r : Ran World (Unit {0})} → Logs action s.world s.world.at.requests r
           → Leads (λ _. Added P e) N r
       go s p full = gone
       go s p (logged room) =
-          fine (with-action s action e long b reads (omega (arith, room, s.good.logged)))
+          fine (with_action s action e long b reads (omega (arith, room, s.good.logged)))
           (record { before = s; pre = p; same = refl; past = refl })
 
-  pub wait-adds : {P N : State h₀ → Type 0} (us : ℕ) → us < 256 ^ 4 → Does P (micro_delay us) (λ _. Added P (waited us)) N
+  pub wait_adds : {P N : State h₀ → Type 0} (us : ℕ) → us < 256 ^ 4 → Does P (micro_delay us) (λ _. Added P (waited us)) N
   unfolding micro_delay
-  wait-adds us h =
-      action-adds (wait_action us) (waited us) (wait-length us) (wait-bytes us) (λ r. reads-wait us r h)
+  wait_adds us h =
+      action_adds (wait_action us) (waited us) (wait_length us) (wait_bytes us) (λ r. reads_wait us r h)
 
-  pub frame-adds : {P N : State h₀ → Type 0} → Does P dwc_update_host_frame_interval (λ _. Added P framed) N
+  pub frame_adds : {P N : State h₀ → Type 0} → Does P dwc_update_host_frame_interval (λ _. Added P framed) N
   unfolding dwc_update_host_frame_interval
-  frame-adds = action-adds frame_interval_action framed frame-length frame-bytes reads-frame
+  frame_adds = action_adds frame_interval_action framed frame_length frame_bytes reads_frame
 
   -- ---- a request and its outcome
 
@@ -69,18 +69,18 @@ module _ {h₀ : List Event} where
     pub short : length o.delivered ≤ q.length
 
   module _ (pipe : UsbPipeAddress) (q : UsbDeviceRequest) (c : Bytes (request_action pipe q)) (f : TwoBytes q) where
-    abbrev with-request : (s : State h₀) → s.world.at.logged + 16 ≤ length s.world.log
+    abbrev with_request : (s : State h₀) → s.world.at.logged + 16 ≤ length s.world.log
         → s.world.at.taken + (4 + size_of (outcomes_left s.world)) ≤ length s.world.outcomes → State h₀
-    with-request s room l =
+    with_request s room l =
         let rest : List ℕ = outcomes_left s.world in
         record {
           world = taken (4 + size_of rest) (logged_world s.world (request_action pipe q) (s.world.at.requests + 1));
           past = asked pipe.device q (outcome_of q.length rest) ∷ s.past;
-          good = took-good (4 + size_of rest) l (log-good (request_action pipe q) (s.world.at.requests + 1) c room s.good);
+          good = took_good (4 + size_of rest) l (log_good (request_action pipe q) (s.world.at.requests + 1) c room s.good);
           reads =
               reads_more (request_action pipe q) (s.world.at.taken + (4 + size_of rest)) (s.world.at.requests + 1) s.reads
-              (request-length pipe q) room
-              (reads-request pipe q _ f ∙ ap (reading (asked pipe.device q (outcome_of q.length rest) ∷ s.past))
+              (request_length pipe q) room
+              (reads_request pipe q _ f ∙ ap (reading (asked pipe.device q (outcome_of q.length rest) ∷ s.past))
               (drop-drop (4 + size_of rest) s.world.at.taken s.world.outcomes));
         }
 
@@ -92,18 +92,18 @@ module _ {h₀ : List Event} where
         → ((o : Outcome) → Does (Asked P pipe.device q o) (k o) Q N)
         → Does P (log_request (request_action pipe q) >> (take_outcome q.length >>= k)) Q N
     unfolding ◌>>=◌ ◌>>◌
-    asks {P} {N} {B} {Q} {k} h = record { run = λ s p. log s p (request-ends _ s.world) }
+    asks {P} {N} {B} {Q} {k} h = record { run = λ s p. log s p (request_ends _ s.world) }
       where
         take : (s : State h₀) → P s → s.world.at.logged + 16 ≤ length s.world.log → {r : Ran World Outcome}
             → Takes q.length (after s) r → Leads Q N (on r k)
         take s p room missing = gone
         take s p room (whole l) =
-            (h _).run (with-request s room (omega (arith, l, length-drop s.world.at.taken s.world.outcomes, s.good.taken))) (record {
+            (h _).run (with_request s room (omega (arith, l, length-drop s.world.at.taken s.world.outcomes, s.good.taken))) (record {
               before = s;
               pre = p;
               same = refl;
               past = refl;
-              bytes = delivered-bytes q.length s.good;
+              bytes = delivered_bytes q.length s.good;
               short = omega (arith, length-take (min (size_of (outcomes_left s.world)) q.length) (drop 4 (outcomes_left s.world)));
             })
 

@@ -16,8 +16,8 @@ Any a = Unit {0}
 
 pub data Left {S A : Type 0} (P : S → Type 0) (Q : A → Type 0) : Ran S A → Type 0 where
   is-done : {a : A} {s : S} → P s → Q a → Left P Q (done a s)
-  is-failed : {e : ErrorCode} {s : S} → P s → Left P Q (fail e s)
-  is-halted : {h : Halt} {s : S} → P s → Left P Q (halt h s)
+  is_failed : {e : ErrorCode} {s : S} → P s → Left P Q (fail e s)
+  is_halted : {h : Halt} {s : S} → P s → Left P Q (halt h s)
 
 pub record Safe {S : Type 0} (P P' : S → Type 0) {A : Type 0} (m : Program S A) (Q : A → Type 0) : Type 0 where
   pub run : (s : S) → P s → Left P' Q (m s)
@@ -25,59 +25,59 @@ pub record Safe {S : Type 0} (P P' : S → Type 0) {A : Type 0} (m : Program S A
 abbrev pub Keeps : {S : Type 0} → (S → Type 0) → {A : Type 0} → Program S A → (A → Type 0) → Type 0
 Keeps P m Q = Safe P P m Q
 
-pub left-holds : {S A : Type 0} {P : S → Type 0} {Q : A → Type 0} {r : Ran S A} → Left P Q r → P (end_of r)
-left-holds (is-done p q) = p
-left-holds (is-failed p) = p
-left-holds (is-halted p) = p
+pub left_holds : {S A : Type 0} {P : S → Type 0} {Q : A → Type 0} {r : Ran S A} → Left P Q r → P (end_of r)
+left_holds (is-done p q) = p
+left_holds (is_failed p) = p
+left_holds (is_halted p) = p
 
 module _ {S : Type 0} {P P' : S → Type 0} (weaker : (s : S) → P s → P' s) where
-  pub left-weaker : {A : Type 0} {Q : A → Type 0} {r : Ran S A} → Left P Q r → Left P' Q r
-  left-weaker (is-done p q) = is-done (weaker _ p) q
-  left-weaker (is-failed p) = is-failed (weaker _ p)
-  left-weaker (is-halted p) = is-halted (weaker _ p)
+  pub left_weaker : {A : Type 0} {Q : A → Type 0} {r : Ran S A} → Left P Q r → Left P' Q r
+  left_weaker (is-done p q) = is-done (weaker _ p) q
+  left_weaker (is_failed p) = is_failed (weaker _ p)
+  left_weaker (is_halted p) = is_halted (weaker _ p)
 
-  left-on : {A B : Type 0} {Q : A → Type 0} {Q' : B → Type 0} {r : Ran S A} {k : A → Program S B} → Left P Q r
+  left_on : {A B : Type 0} {Q : A → Type 0} {Q' : B → Type 0} {r : Ran S A} {k : A → Program S B} → Left P Q r
       → ((a : A) → Q a → Safe P P' (k a) Q') → Left P' Q' (on r k)
-  left-on (is-done {a} {s} p q) f = (f a q).run s p
-  left-on (is-failed p) f = is-failed (weaker _ p)
-  left-on (is-halted p) f = is-halted (weaker _ p)
+  left_on (is-done {a} {s} p q) f = (f a q).run s p
+  left_on (is_failed p) f = is_failed (weaker _ p)
+  left_on (is_halted p) f = is_halted (weaker _ p)
 
   -- first a program that keeps P
   pub bind_to : {A B : Type 0} {Q : A → Type 0} {Q' : B → Type 0} {m : Program S A} {k : A → Program S B} → Keeps P m Q
       → ((a : A) → Q a → Safe P P' (k a) Q') → Safe P P' (m >>= k) Q'
   unfolding ◌>>=◌
-  bind_to h f = record { run = λ s p. left-on (h.run s p) f }
+  bind_to h f = record { run = λ s p. left_on (h.run s p) f }
 
-  pub next-to : {A B : Type 0} {Q : A → Type 0} {Q' : B → Type 0} {m : Program S A} {k : Program S B} → Keeps P m Q → Safe P P' k Q'
+  pub next_to : {A B : Type 0} {Q : A → Type 0} {Q' : B → Type 0} {m : Program S A} {k : Program S B} → Keeps P m Q → Safe P P' k Q'
       → Safe P P' (m >> k) Q'
   unfolding ◌>>◌
-  next-to h f = record { run = λ s p. left-on (h.run s p) (λ _ _. f) }
+  next_to h f = record { run = λ s p. left_on (h.run s p) (λ _ _. f) }
 
-  pub skips-to : Safe P P' skip Any
+  pub skips_to : Safe P P' skip Any
   unfolding skip
-  skips-to = record { run = λ s p. is-done (weaker s p) tt }
+  skips_to = record { run = λ s p. is-done (weaker s p) tt }
 
-  pub whens-to : (b : Bool) {m : Program S (Unit {0})} → (b ≡ true → Safe P P' m Any) → Safe P P' (when b m) Any
+  pub whens_to : (b : Bool) {m : Program S (Unit {0})} → (b ≡ true → Safe P P' m Any) → Safe P P' (when b m) Any
   unfolding when
-  whens-to true h = h refl
-  whens-to false h = skips-to
+  whens_to true h = h refl
+  whens_to false h = skips_to
 
   -- after a test that refuses
-  pub unless-to : {B : Type 0} {Q : B → Type 0} (b : Bool) (e : ErrorCode) (k : Program S B) → (b ≡ false → Safe P P' k Q)
+  pub unless_to : {B : Type 0} {Q : B → Type 0} (b : Bool) (e : ErrorCode) (k : Program S B) → (b ≡ false → Safe P P' k Q)
       → Safe P P' (when b (throw e) >> k) Q
   unfolding when throw skip ◌>>◌
-  unless-to true e k h = record { run = λ s p. is-failed (weaker s p) }
-  unless-to false e k h = h refl
+  unless_to true e k h = record { run = λ s p. is_failed (weaker s p) }
+  unless_to false e k h = h refl
 
-ran-left : {S : Type 0} {P : S → Type 0} (s : S) (a : Answer) → P s → Left P Any (ran a s)
-ran-left s Ok p = is-done p tt
-ran-left s (Error e) p = is-failed p
-ran-left s (Stop h) p = is-halted p
+ran_left : {S : Type 0} {P : S → Type 0} (s : S) (a : Answer) → P s → Left P Any (ran a s)
+ran_left s Ok p = is-done p tt
+ran_left s (Error e) p = is_failed p
+ran_left s (Stop h) p = is_halted p
 
-pub caught-left : {S : Type 0} {P : S → Type 0} {r : Ran S (Unit {0})} → Left P Any r → Left P Any (caught r)
-caught-left (is-done p q) = is-done p tt
-caught-left (is-failed p) = is-done p tt
-caught-left (is-halted p) = is-halted p
+pub caught_left : {S : Type 0} {P : S → Type 0} {r : Ran S (Unit {0})} → Left P Any r → Left P Any (caught r)
+caught_left (is-done p q) = is-done p tt
+caught_left (is_failed p) = is-done p tt
+caught_left (is_halted p) = is_halted p
 
 module _ {S : Type 0} {P : S → Type 0} where
   pub bind : {A B : Type 0} {Q : A → Type 0} {Q' : B → Type 0} {m : Program S A} {k : A → Program S B} → Keeps P m Q
@@ -86,22 +86,22 @@ module _ {S : Type 0} {P : S → Type 0} where
 
   pub next : {A B : Type 0} {Q : A → Type 0} {Q' : B → Type 0} {m : Program S A} {k : Program S B} → Keeps P m Q → Keeps P k Q'
       → Keeps P (m >> k) Q'
-  next h f = next-to (λ s p. p) h f
+  next h f = next_to (λ s p. p) h f
 
   pub gives : {A : Type 0} {Q : A → Type 0} (a : A) → Q a → Keeps P (return a) Q
   unfolding return
   gives a q = record { run = λ s p. is-done p q }
 
   pub skips : Keeps P skip Any
-  skips = skips-to (λ s p. p)
+  skips = skips_to (λ s p. p)
 
   pub throws : {A : Type 0} {Q : A → Type 0} (e : ErrorCode) → Keeps P (throw {A = A} e) Q
   unfolding throw
-  throws e = record { run = λ s p. is-failed p }
+  throws e = record { run = λ s p. is_failed p }
 
   pub stops : {A : Type 0} {Q : A → Type 0} (h : Halt) → Keeps P (stop {A = A} h) Q
   unfolding stop
-  stops h = record { run = λ s p. is-halted p }
+  stops h = record { run = λ s p. is_halted p }
 
   pub looks : {A : Type 0} {Q : A → Type 0} (f : S → A) → ((s : S) → P s → Q (f s)) → Keeps P (look f) Q
   unfolding look
@@ -116,11 +116,11 @@ module _ {S : Type 0} {P : S → Type 0} where
 
   pub succeeds : (a : Answer) → Keeps P (succeed a) Any
   unfolding succeed
-  succeeds a = record { run = λ s p. ran-left s a p }
+  succeeds a = record { run = λ s p. ran_left s a p }
 
   pub attempts : {m : Program S (Unit {0})} → Keeps P m Any → Keeps P (attempt m) Any
   unfolding attempt
-  attempts h = record { run = λ s p. caught-left (h.run s p) }
+  attempts h = record { run = λ s p. caught_left (h.run s p) }
 
   pub ignores : {m : Program S (Unit {0})} → Keeps P m Any → Keeps P (ignore m) Any
   unfolding ignore
@@ -131,19 +131,19 @@ module _ {S : Type 0} {P : S → Type 0} where
   either false h k = k
 
   pub whens : (b : Bool) {m : Program S (Unit {0})} → Keeps P m Any → Keeps P (when b m) Any
-  whens b h = whens-to (λ s p. p) b (λ _. h)
+  whens b h = whens_to (λ s p. p) b (λ _. h)
 
   -- after a test that refuses
   pub unless : {B : Type 0} {Q : B → Type 0} (b : Bool) (e : ErrorCode) (k : Program S B) → (b ≡ false → Keeps P k Q)
       → Keeps P (when b (throw e) >> k) Q
-  unless b e k h = unless-to (λ s p. p) b e k h
+  unless b e k h = unless_to (λ s p. p) b e k h
 
   -- after a test that stops the call
-  pub stops-if : {B : Type 0} {Q : B → Type 0} (b : Bool) (h : Halt) (k : Program S B) → (b ≡ false → Keeps P k Q)
+  pub stops_if : {B : Type 0} {Q : B → Type 0} (b : Bool) (h : Halt) (k : Program S B) → (b ≡ false → Keeps P k Q)
       → Keeps P (when b (stop h) >> k) Q
   unfolding when stop skip ◌>>◌
-  stops-if true h k f = record { run = λ s p. is-halted p }
-  stops-if false h k f = f refl
+  stops_if true h k f = record { run = λ s p. is_halted p }
+  stops_if false h k f = f refl
 
   pub eachs : (n from : ℕ) {body : ℕ → Program S (Unit {0})} → ((i : ℕ) → i < from + n → Keeps P (body i) Any)
       → Keeps P (each n from body) Any

@@ -13,21 +13,21 @@ use Rattle.usb_types.specs.Outcomes.{error_word, result_of}
 use Rattle.usb_types.specs.Actions.{packet_size}
 use Rattle.usb_types.specs.declared.request.UsbDeviceRequest.{UsbDeviceRequest}
 use Rattle.usb_types.specs.declared.pipe.UsbPipeAddress.{UsbPipeAddress}
-use Rattle.usb_types.proofs.LittleEndian.{length-le}
+use Rattle.usb_types.proofs.LittleEndian.{length_le}
 use Rattle.usb_store.specs.Layout.{number_field, speed_field, error_field, last_transfer_field, max_packet_size0_field}
 use Rattle.usb_store.specs.Access.{offset, byte_at, bytes_at, with_bytes, with_number}
-use Rattle.usb_store.proofs.Fields.{Apart, byte-other, bytes-other, bytes_same}
+use Rattle.usb_store.proofs.Fields.{Apart, byte_other, bytes_other, bytes_same}
 use Rattle.usb_model.specs.World.{put_bytes, put_number}
 use Rattle.usb_model.specs.Transfer.{Outcome, Buffer, usb_control_message, control, read}
 use Rattle.usb_model.specs.Kept.{Bytes}
 use Rattle.usb_model.specs.History.{Event, asked, acknowledged}
 use Rattle.usb_model.proofs.Bytes.{bytes_le, bytes_take, byte-at}
-use Rattle.usb_model.proofs.Stores.{plain-low, Follows, Plain, plain-less, none-follows, plain_follows}
-use Rattle.usb_model.proofs.Primitives.{Byte-codes, request-bytes, packet-low, Fits, room-none, plain}
+use Rattle.usb_model.proofs.Stores.{plain_low, Follows, Plain, plain_less, none_follows, plain_follows}
+use Rattle.usb_model.proofs.Primitives.{Byte-codes, request_bytes, packet_low, Fits, room_none, plain}
 use Rattle.usb_model.proofs.Reading.{TwoBytes}
-use Rattle.usb_model.proofs.Triples.{State, store, Does, does-pre, does-bind, does-next, does-return, does-get, does-succeed, does-store, does-given, does-known, leads-map, Gives, k-bind, k-next, k-get, k-when, k-throw, k-return}
+use Rattle.usb_model.proofs.Triples.{State, store, Does, does_pre, does_bind, does_next, does_return, does_get, does_succeed, does_store, does_given, does_known, leads_map, Gives, k_bind, k_next, k_get, k_when, k_throw, k_return}
 use Rattle.usb_model.proofs.Events.{Asked, asks}
-use Rattle.usb_model.proofs.Quiet.{Clear, apart-less, Quiet, quiet-order, adds_one}
+use Rattle.usb_model.proofs.Quiet.{Clear, apart_less, Quiet, quiet_order, adds_one}
 
 -- no byte is among none
 pub clear_none : {K : ℕ → ℕ → Type 0} (p f : ℕ) → Clear K p f 0
@@ -48,34 +48,34 @@ pub record Sendable (K : ℕ → ℕ → Type 0) (p : ℕ) (q : UsbDeviceRequest
 -- ---- four bytes of the error or of the last transfer
 
 head_plain : (f : ℕ) → 8 ≤ f → f ≤ 12 → Plain f 4
-head_plain f l m = plain-low (omega arith) (omega arith)
+head_plain f l m = plain_low (omega arith) (omega arith)
 
-head-other : {K : ℕ → ℕ → Type 0} (p f v r g : ℕ) (t : List ℕ) → Clear K p 8 8 → 8 ≤ f → f ≤ 12 → K r g
+head_other : {K : ℕ → ℕ → Type 0} (p f v r g : ℕ) (t : List ℕ) → Clear K p 8 8 → 8 ≤ f → f ≤ 12 → K r g
     → byte_at (with_number t p f 4 v) r g ≡ byte_at t r g
-head-other p f v r g t c l m k = byte-other t p f (little_endian 4 v) r g (part (c.apart r g k))
+head_other p f v r g t c l m k = byte_other t p f (little_endian 4 v) r g (part (c.apart r g k))
   where
     part : Apart p 8 8 r g 1 → Apart p f (length (little_endian 4 v)) r g 1
     part =
-        ⊎_elim (λ (a : p * 1152 + 8 + 8 ≤ r * 1152 + g). inl (omega (arith, length-le 4 v)))
+        ⊎_elim (λ (a : p * 1152 + 8 + 8 ≤ r * 1152 + g). inl (omega (arith, length_le 4 v)))
         (λ (a : r * 1152 + g + 1 ≤ p * 1152 + 8). inr (omega arith))
 
-head-follows : {h₀ : List Event} (p f v : ℕ) (s : State h₀) → 8 ≤ f → f ≤ 12 → Follows (store s) (with_number (store s) p f 4 v)
-head-follows p f v s l m =
-    plain_follows s.good p f (little_endian 4 v) (plain-less (omega (arith, length-le 4 v)) (head_plain f l m)) (bytes_le 4 v)
+head_follows : {h₀ : List Event} (p f v : ℕ) (s : State h₀) → 8 ≤ f → f ≤ 12 → Follows (store s) (with_number (store s) p f 4 v)
+head_follows p f v s l m =
+    plain_follows s.good p f (little_endian 4 v) (plain_less (omega (arith, length_le 4 v)) (head_plain f l m)) (bytes_le 4 v)
 
 -- what is delivered goes to a buffer that fits
-buffer-follows : {h₀ : List Event} (p : ℕ) (b : Buffer) (vs : List ℕ) (s : State h₀) → Fits b → Bytes vs
+buffer_follows : {h₀ : List Event} (p : ℕ) (b : Buffer) (vs : List ℕ) (s : State h₀) → Fits b → Bytes vs
     → Follows (store s) (with_bytes (store s) p b.field (take b.room vs))
-buffer-follows p b vs s (room-none e) c = rw e (none-follows s.good p b.field)
-buffer-follows p b vs s (plain r) c =
-    plain_follows s.good p b.field (take b.room vs) (plain-less (omega (arith, length-take b.room vs)) r)
+buffer_follows p b vs s (room_none e) c = rw e (none_follows s.good p b.field)
+buffer_follows p b vs s (plain r) c =
+    plain_follows s.good p b.field (take b.room vs) (plain_less (omega (arith, length-take b.room vs)) r)
     (bytes_take b.room vs c)
 
-buffer-other : {K : ℕ → ℕ → Type 0} (p : ℕ) (b : Buffer) (vs t : List ℕ) (r g : ℕ) → Clear K p b.field b.room → K r g
+buffer_other : {K : ℕ → ℕ → Type 0} (p : ℕ) (b : Buffer) (vs t : List ℕ) (r g : ℕ) → Clear K p b.field b.room → K r g
     → byte_at (with_bytes t p b.field (take b.room vs)) r g ≡ byte_at t r g
-buffer-other p b vs t r g c k =
-    byte-other t p b.field (take b.room vs) r g
-    (apart-less p b.field (length (take b.room vs)) b.room r g (omega (arith, length-take b.room vs)) (c.apart r g k))
+buffer_other p b vs t r g c k =
+    byte_other t p b.field (take b.room vs) r g
+    (apart_less p b.field (length (take b.room vs)) b.room r g (omega (arith, length-take b.room vs)) (c.apart r g k))
 
 module _ {h₀ : List Event} (K : ℕ → ℕ → Type 0) (p : ℕ) (q : UsbDeviceRequest) (b : Buffer) where
   -- t came from a state of P by the request q to an address, with the outcome o
@@ -99,28 +99,28 @@ module _ {h₀ : List Event} (K : ℕ → ℕ → Type 0) (p : ℕ) (q : UsbDevi
     short : length o.delivered ≤ q.length
 
   module _ {P N : State h₀ → Type 0} (send : Sendable K p q b) (address : ℕ) (o : Outcome) where
-    error-noted : (v : ℕ) → Does (Asked P address q o) (put_number p error_field 4 v) (λ _. Noted P address o) N
+    error_noted : (v : ℕ) → Does (Asked P address q o) (put_number p error_field 4 v) (λ _. Noted P address o) N
     unfolding put_bytes
-    error-noted v = does-store (λ t. with_number t p error_field 4 v) (λ s a. (
-      head-follows p error_field v s (omega arith) (omega arith),
+    error_noted v = does_store (λ t. with_number t p error_field 4 v) (λ s a. (
+      head_follows p error_field v s (omega arith) (omega arith),
       record {
         before = a.before;
         pre = a.pre;
-        keep = λ r g k. head-other p error_field v r g (store s) send.head (omega arith) (omega arith) k ∙ ap (λ (t : List ℕ). byte_at t r g) a.same;
+        keep = λ r g k. head_other p error_field v r g (store s) send.head (omega arith) (omega arith) k ∙ ap (λ (t : List ℕ). byte_at t r g) a.same;
         past = a.past;
         bytes = a.bytes;
         short = a.short;
       },
     ))
 
-    delivered-noted : Does (Noted P address o) (put_bytes p b.field (take b.room o.delivered)) (λ _. Answered P address o) N
+    delivered_noted : Does (Noted P address o) (put_bytes p b.field (take b.room o.delivered)) (λ _. Answered P address o) N
     unfolding put_bytes
-    delivered-noted = does-store (λ t. with_bytes t p b.field (take b.room o.delivered)) (λ s a. (
-      buffer-follows p b o.delivered s send.fits a.bytes,
+    delivered_noted = does_store (λ t. with_bytes t p b.field (take b.room o.delivered)) (λ s a. (
+      buffer_follows p b o.delivered s send.fits a.bytes,
       record {
         before = a.before;
         pre = a.pre;
-        keep = λ r g k. buffer-other p b o.delivered (store s) r g send.clear k ∙ a.keep r g k;
+        keep = λ r g k. buffer_other p b o.delivered (store s) r g send.clear k ∙ a.keep r g k;
         past = a.past;
         bytes = a.bytes;
         short = a.short;
@@ -130,19 +130,19 @@ module _ {h₀ : List Event} (K : ℕ → ℕ → Type 0) (p : ℕ) (q : UsbDevi
       },
     ))
 
-    last-noted : (v : ℕ) → Does (Answered P address o) (put_number p last_transfer_field 4 v) (λ _. Answered P address o) N
+    last_noted : (v : ℕ) → Does (Answered P address o) (put_number p last_transfer_field 4 v) (λ _. Answered P address o) N
     unfolding put_bytes
-    last-noted v = does-store (λ t. with_number t p last_transfer_field 4 v) (λ s a. (
-      head-follows p last_transfer_field v s (omega arith) (omega arith),
+    last_noted v = does_store (λ t. with_number t p last_transfer_field 4 v) (λ s a. (
+      head_follows p last_transfer_field v s (omega arith) (omega arith),
       record {
         before = a.before;
         pre = a.pre;
-        keep = λ r g k. head-other p last_transfer_field v r g (store s) send.head (omega arith) (omega arith) k ∙ a.keep r g k;
+        keep = λ r g k. head_other p last_transfer_field v r g (store s) send.head (omega arith) (omega arith) k ∙ a.keep r g k;
         past = a.past;
         bytes = a.bytes;
         short = a.short;
         holds = λ inside high room long.
-            bytes-other (store s) p last_transfer_field (little_endian 4 v) p b.field b.room (inl (omega (arith, length-le 4 v)))
+            bytes_other (store s) p last_transfer_field (little_endian 4 v) p b.field b.room (inl (omega (arith, length_le 4 v)))
             ∙ a.holds inside high room long;
       },
     ))
@@ -159,56 +159,56 @@ module _ {h₀ : List Event} (K : ℕ → ℕ → Type 0) (p : ℕ) (q : UsbDevi
     pub answered : Answered P address outcome t
     pub failed : acknowledged outcome ≡ false
 
-  pub message-does : {P : State h₀ → Type 0} → Sendable K p q b → (address : ℕ) → address < 256
+  pub message_does : {P : State h₀ → Type 0} → Sendable K p q b → (address : ℕ) → address < 256
       → Does P (usb_control_message p address q b) (Acknowledged P address) (Unacknowledged P address)
   unfolding usb_control_message acknowledged
-  message-does {P} send address h =
-      does-bind (does-get p speed_field) λ speed.
-      does-bind (does-get p max_packet_size0_field) λ size.
-      does-given (λ s x. subst (λ (v : ℕ). v < 256) (sym x.0.1) (byte-at (store s) p speed_field s.good.store)) λ low.
-      does-pre (λ s x. x.0.0) (
+  message_does {P} send address h =
+      does_bind (does_get p speed_field) λ speed.
+      does_bind (does_get p max_packet_size0_field) λ size.
+      does_given (λ s x. subst (λ (v : ℕ). v < 256) (sym x.0.1) (byte-at (store s) p speed_field s.good.store)) λ low.
+      does_pre (λ s x. x.0.0) (
       let pipe : UsbPipeAddress = record { device = address; speed = speed; max_size = packet_size size } in
-      asks pipe q (request-bytes pipe q h low (packet-low size) send.codes) send.two λ o.
-      does-next (error-noted send address o (error_word o.error)) (
-      does-next (delivered-noted send address o) (
-      does-next (last-noted send address o (length o.delivered)) (
-      does-next (does-succeed (result_of o.submit o.error) (λ e s a. record { outcome = o; answered = a; failed = e }))
-      (does-return o.delivered (λ s a. record { outcome = o; answered = a.0; good = a.1; is = refl }))))))
+      asks pipe q (request_bytes pipe q h low (packet_low size) send.codes) send.two λ o.
+      does_next (error_noted send address o (error_word o.error)) (
+      does_next (delivered_noted send address o) (
+      does_next (last_noted send address o (length o.delivered)) (
+      does_next (does_succeed (result_of o.submit o.error) (λ e s a. record { outcome = o; answered = a; failed = e }))
+      (does_return o.delivered (λ s a. record { outcome = o; answered = a.0; good = a.1; is = refl }))))))
 
   -- a request to the device's own number
-  pub control-does : {P : State h₀ → Type 0} → Sendable K p q b → (address : ℕ)
+  pub control_does : {P : State h₀ → Type 0} → Sendable K p q b → (address : ℕ)
       → ((s : State h₀) → P s → byte_at (store s) p number_field ≡ address)
       → Does P (control p q b) (Acknowledged P address) (Unacknowledged P address)
   unfolding control
-  control-does {P} send address e =
-      does-known _ p number_field address e (does-given (λ s x. subst (λ (v : ℕ). v < 256) (e s x) (byte-at (store s) p number_field s.good.store))
-      λ low. message-does send address low)
+  control_does {P} send address e =
+      does_known _ p number_field address e (does_given (λ s x. subst (λ (v : ℕ). v < 256) (e s x) (byte-at (store s) p number_field s.good.store))
+      λ low. message_does send address low)
 
   -- ---- as a step that keeps K and adds an event of E
 
-  pub answered-step : {E : Event → Type 0} {P : State h₀ → Type 0} {t : State h₀} {address : ℕ} {o : Outcome} → E (asked address q o)
+  pub answered_step : {E : Event → Type 0} {P : State h₀ → Type 0} {t : State h₀} {address : ℕ} {o : Outcome} → E (asked address q o)
       → (a : Answered P address o t) → Quiet K E a.before t
-  answered-step e a = record { keep = a.keep; past = adds_one e a.past }
+  answered_step e a = record { keep = a.keep; past = adds_one e a.past }
 
-  answered-quiet : {E : Event → Type 0} {s t : State h₀} {address : ℕ} {o : Outcome} → ((o : Outcome) → E (asked address q o))
+  answered_quiet : {E : Event → Type 0} {s t : State h₀} {address : ℕ} {o : Outcome} → ((o : Outcome) → E (asked address q o))
       → Answered (λ u. u ≡ s) address o t → Quiet K E s t
-  answered-quiet {E} {s} {t} {address} {o} e a = subst (λ (u : State h₀). Quiet K E u t) a.pre (answered-step (e o) a)
+  answered_quiet {E} {s} {t} {address} {o} e a = subst (λ (u : State h₀). Quiet K E u t) a.pre (answered_step (e o) a)
 
-  pub message-quiet : {E : Event → Type 0} → Sendable K p q b → ((address : ℕ) (o : Outcome) → E (asked address q o)) → (address : ℕ)
+  pub message_quiet : {E : Event → Type 0} → Sendable K p q b → ((address : ℕ) (o : Outcome) → E (asked address q o)) → (address : ℕ)
       → address < 256 → Gives {h₀ = h₀} (Quiet K E) Bytes (usb_control_message p address q b)
-  message-quiet {E} send e address h = record {
-    run = λ s. leads-map ((message-does {P = λ u. u ≡ s} send address h).run s refl)
-        (λ bytes t a. (answered-quiet (e address) a.answered, subst Bytes (sym a.is) a.answered.bytes))
-        (λ t a. answered-quiet (e address) a.answered);
+  message_quiet {E} send e address h = record {
+    run = λ s. leads_map ((message_does {P = λ u. u ≡ s} send address h).run s refl)
+        (λ bytes t a. (answered_quiet (e address) a.answered, subst Bytes (sym a.is) a.answered.bytes))
+        (λ t a. answered_quiet (e address) a.answered);
   }
 
-  pub control-quiet : {E : Event → Type 0} → Sendable K p q b → ((address : ℕ) (o : Outcome) → E (asked address q o))
+  pub control_quiet : {E : Event → Type 0} → Sendable K p q b → ((address : ℕ) (o : Outcome) → E (asked address q o))
       → Gives {h₀ = h₀} (Quiet K E) Bytes (control p q b)
   unfolding control
-  control-quiet {E} send e = k-bind (quiet-order K E) (k-get (quiet-order K E) p number_field) λ address h. message-quiet send e address h
+  control_quiet {E} send e = k_bind (quiet_order K E) (k_get (quiet_order K E) p number_field) λ address h. message_quiet send e address h
 
-  pub read-quiet : {E : Event → Type 0} → Sendable K p q b → ((address : ℕ) (o : Outcome) → E (asked address q o)) → (minimum : ℕ)
+  pub read_quiet : {E : Event → Type 0} → Sendable K p q b → ((address : ℕ) (o : Outcome) → E (asked address q o)) → (minimum : ℕ)
       → Gives {h₀ = h₀} (Quiet K E) Bytes (read p q minimum b)
   unfolding read
-  read-quiet {E} send e minimum = k-bind (quiet-order K E) (control-quiet send e) λ bytes h. k-next (quiet-order K E)
-      (k-when (quiet-order K E) _ (k-throw (quiet-order K E) _)) (k-return (quiet-order K E) bytes h)
+  read_quiet {E} send e minimum = k_bind (quiet_order K E) (control_quiet send e) λ bytes h. k_next (quiet_order K E)
+      (k_when (quiet_order K E) _ (k_throw (quiet_order K E) _)) (k_return (quiet_order K E) bytes h)

@@ -20,14 +20,14 @@ use Rattle.usb_types.specs.declared.types.Answer.{Answer}
 use Rattle.usb_types.specs.declared.types.Answer.TheVariants.{Ok, Error, Stop}
 use Rattle.usb_types.specs.declared.request.UsbDeviceRequest.{UsbDeviceRequest}
 use Rattle.usb_types.specs.declared.pipe.UsbPipeAddress.{UsbPipeAddress}
-use Rattle.usb_store.proofs.Writes.{length-write}
+use Rattle.usb_store.proofs.Writes.{length_write}
 use Rattle.usb_model.specs.Programs.{Ran, done, fail, halt, on, ◌>>=◌, ◌>>◌, return, skip, throw, stop, look, change, succeed, caught, attempt, ignore, when, each, end_of}
 use Rattle.usb_model.specs.World.{World, M, get, get_bytes, get_number, put_bytes, appended, counted, log_action, log_request, micro_delay, dwc_update_host_frame_interval}
 use Rattle.usb_model.specs.Transfer.{Outcome, taken, size_of, outcome_of, take_outcome}
 use Rattle.usb_model.specs.Kept.{kinds_in, requests_in, is_kind, Onward}
 use Rattle.usb_model.proofs.Ways.{logged_world}
-use Rattle.usb_model.proofs.Onward.{onward-same, onward-join}
-use Rattle.usb_model.proofs.Primitives.{log-onward}
+use Rattle.usb_model.proofs.Onward.{onward_same, onward_join}
+use Rattle.usb_model.proofs.Primitives.{log_onward}
 
 -- ---- the log alone
 
@@ -44,10 +44,10 @@ abbrev pub Grows : World → World → Type 0
 Grows w v = Grown (log_of w) (log_of v)
 
 pub still : {w : World} → Grown w w
-still {w} = record { onward = onward-same w; fits = λ h. h }
+still {w} = record { onward = onward_same w; fits = λ h. h }
 
 join : {u v w : World} → Grown u v → Grown v w → Grown u w
-join p q = record { onward = onward-join p.onward q.onward; fits = λ h. q.fits (p.fits h) }
+join p q = record { onward = onward_join p.onward q.onward; fits = λ h. q.fits (p.fits h) }
 
 -- "under 16 log bytes are left"
 abbrev full : World → Bool
@@ -58,8 +58,8 @@ logged : (w : World) (action : List ℕ) (requests : ℕ) → length action ≡ 
     → requests ≡ w.at.requests + requests_in 1 action → full w ≡ false
     → Grows w (logged_world w action requests)
 logged w action requests long kind e room = record {
-  onward = log-onward action requests long kind e;
-  fits = λ h. omega (arith, ltb-false (length w.log - w.at.logged) 16 room, length-write w.log w.at.logged action);
+  onward = log_onward action requests long kind e;
+  fits = λ h. omega (arith, ltb-false (length w.log - w.at.logged) 16 room, length_write w.log w.at.logged action);
 }
 
 -- ---- programs
@@ -82,42 +82,42 @@ module _ (more : List ℕ) where
     pub grows : (w : World) → Grows w (end_of (m w))
     pub repeats : (w : World) → Repeats (m w) (m (extended w))
 
-grows-caught : {w : World} (r : Ran World (Unit {0})) → Grown w (log_of (end_of r)) → Grown w (log_of (end_of (caught r)))
-grows-caught (done a v) g = g
-grows-caught (fail e v) g = g
-grows-caught (halt h v) g = g
+grows_caught : {w : World} (r : Ran World (Unit {0})) → Grown w (log_of (end_of r)) → Grown w (log_of (end_of (caught r)))
+grows_caught (done a v) g = g
+grows_caught (fail e v) g = g
+grows_caught (halt h v) g = g
 
 module _ {more : List ℕ} where
-  grows-on : {A B : Type 0} {w : World} {k : A → M B} (r : Ran World A) → Grown w (log_of (end_of r)) → ((a : A) → Extends more (k a))
+  grows_on : {A B : Type 0} {w : World} {k : A → M B} (r : Ran World A) → Grown w (log_of (end_of r)) → ((a : A) → Extends more (k a))
       → Grown w (log_of (end_of (on r k)))
-  grows-on (done a v) g f = join g ((f a).grows v)
-  grows-on (fail e v) g f = g
-  grows-on (halt h v) g f = g
+  grows_on (done a v) g f = join g ((f a).grows v)
+  grows_on (fail e v) g f = g
+  grows_on (halt h v) g f = g
 
-  repeats-on : {A B : Type 0} {k : A → M B} {r r' : Ran World A} → Repeats more r r' → ((a : A) → Extends more (k a))
+  repeats_on : {A B : Type 0} {k : A → M B} {r r' : Ran World A} → Repeats more r r' → ((a : A) → Extends more (k a))
       → Repeats more (on r k) (on r' k)
-  repeats-on (same {r = done a v}) f = (f a).repeats v
-  repeats-on (same {r = fail e v}) f = same
-  repeats-on (same {r = halt h v}) f = same
-  repeats-on (spent {r} g) f = spent (grows-on r g f)
+  repeats_on (same {r = done a v}) f = (f a).repeats v
+  repeats_on (same {r = fail e v}) f = same
+  repeats_on (same {r = halt h v}) f = same
+  repeats_on (spent {r} g) f = spent (grows_on r g f)
 
   pub bind : {A B : Type 0} {m : M A} {k : A → M B} → Extends more m → ((a : A) → Extends more (k a)) → Extends more (m >>= k)
   unfolding ◌>>=◌
-  bind {m} h f = record { grows = λ w. grows-on (m w) (h.grows w) f; repeats = λ w. repeats-on (h.repeats w) f }
+  bind {m} h f = record { grows = λ w. grows_on (m w) (h.grows w) f; repeats = λ w. repeats_on (h.repeats w) f }
 
   pub next : {A B : Type 0} {m : M A} {k : M B} → Extends more m → Extends more k → Extends more (m >> k)
   unfolding ◌>>◌
-  next {m} h f = record { grows = λ w. grows-on (m w) (h.grows w) (λ _. f); repeats = λ w. repeats-on (h.repeats w) (λ _. f) }
+  next {m} h f = record { grows = λ w. grows_on (m w) (h.grows w) (λ _. f); repeats = λ w. repeats_on (h.repeats w) (λ _. f) }
 
-  repeats-caught : {r r' : Ran World (Unit {0})} → Repeats more r r' → Repeats more (caught r) (caught r')
-  repeats-caught (same {r = done a v}) = same
-  repeats-caught (same {r = fail e v}) = same
-  repeats-caught (same {r = halt h v}) = same
-  repeats-caught (spent {r} g) = spent (grows-caught r g)
+  repeats_caught : {r r' : Ran World (Unit {0})} → Repeats more r r' → Repeats more (caught r) (caught r')
+  repeats_caught (same {r = done a v}) = same
+  repeats_caught (same {r = fail e v}) = same
+  repeats_caught (same {r = halt h v}) = same
+  repeats_caught (spent {r} g) = spent (grows_caught r g)
 
   pub attempts : {m : M (Unit {0})} → Extends more m → Extends more (attempt m)
   unfolding attempt
-  attempts {m} h = record { grows = λ w. grows-caught (m w) (h.grows w); repeats = λ w. repeats-caught (h.repeats w) }
+  attempts {m} h = record { grows = λ w. grows_caught (m w) (h.grows w); repeats = λ w. repeats_caught (h.repeats w) }
 
   pub gives : {A : Type 0} (a : A) → Extends more (return a)
   unfolding return
@@ -164,17 +164,17 @@ module _ {more : List ℕ} where
   unfolding get
   gets p f = looks _
 
-  pub gets-bytes : (p f n : ℕ) → Extends more (get_bytes p f n)
+  pub gets_bytes : (p f n : ℕ) → Extends more (get_bytes p f n)
   unfolding get_bytes
-  gets-bytes p f n = looks _
+  gets_bytes p f n = looks _
 
-  pub gets-number : (p f n : ℕ) → Extends more (get_number p f n)
+  pub gets_number : (p f n : ℕ) → Extends more (get_number p f n)
   unfolding get_number
-  gets-number p f n = looks _
+  gets_number p f n = looks _
 
-  pub puts-bytes : (p f : ℕ) (vs : List ℕ) → Extends more (put_bytes p f vs)
+  pub puts_bytes : (p f : ℕ) (vs : List ℕ) → Extends more (put_bytes p f vs)
   unfolding put_bytes change
-  puts-bytes p f vs = record { grows = λ w. still; repeats = λ w. same }
+  puts_bytes p f vs = record { grows = λ w. still; repeats = λ w. same }
 
   -- ---- the log
 
@@ -238,25 +238,25 @@ taking asked rest short garbled cut =
 abbrev take_from : ℕ → List ℕ → M Outcome
 take_from asked rest = taking asked rest (is_short rest) (is_garbled rest) (is_cut rest)
 
-grows-taking : (asked : ℕ) (rest : List ℕ) (short garbled cut : Bool) (w : World) → Grows w (end_of (taking asked rest short garbled cut w))
+grows_taking : (asked : ℕ) (rest : List ℕ) (short garbled cut : Bool) (w : World) → Grows w (end_of (taking asked rest short garbled cut w))
 unfolding ◌>>◌ when stop skip change return
-grows-taking asked rest true garbled cut w = still
-grows-taking asked rest false true cut w = still
-grows-taking asked rest false false true w = still
-grows-taking asked rest false false false w = still
+grows_taking asked rest true garbled cut w = still
+grows_taking asked rest false true cut w = still
+grows_taking asked rest false false true w = still
+grows_taking asked rest false false false w = still
 
-grows-take : (asked : ℕ) (rest : List ℕ) (w : World) → Grows w (end_of (take_from asked rest w))
-grows-take asked rest w = grows-taking asked rest (is_short rest) (is_garbled rest) (is_cut rest) w
+grows_take : (asked : ℕ) (rest : List ℕ) (w : World) → Grows w (end_of (take_from asked rest w))
+grows_take asked rest w = grows_taking asked rest (is_short rest) (is_garbled rest) (is_cut rest) w
 
 module _ {more : List ℕ} (asked : ℕ) (w : World) {r : Ran World Outcome} (g : Grows w (end_of r)) where
   -- a whole header is left, and t after it
-  repeats-header : (a b c d : ℕ) (t : List ℕ) (garbled cut : Bool) → is_cut (a ∷ b ∷ c ∷ d ∷ t) ≡ cut
+  repeats_header : (a b c d : ℕ) (t : List ℕ) (garbled cut : Bool) → is_cut (a ∷ b ∷ c ∷ d ∷ t) ≡ cut
       → r ≡ taking asked (a ∷ b ∷ c ∷ d ∷ (t ++ more)) false garbled (is_cut (a ∷ b ∷ c ∷ d ∷ (t ++ more))) (extended more w)
       → Repeats more (taking asked (a ∷ b ∷ c ∷ d ∷ t) false garbled cut w) r
   unfolding ◌>>◌ when stop skip change return number_in
-  repeats-header a b c d t true cut e h = rw h same
-  repeats-header a b c d t false true e h = spent g
-  repeats-header a b c d t false false e h =
+  repeats_header a b c d t true cut e h = rw h same
+  repeats_header a b c d t false true e h = spent g
+  repeats_header a b c d t false false e h =
       let size : ℕ = size_of (a ∷ b ∷ c ∷ d ∷ t) in
       let whole : 4 + size ≤ length (a ∷ b ∷ c ∷ d ∷ t) = ltb-false (length (a ∷ b ∷ c ∷ d ∷ t)) (4 + size) e in
       rw (
@@ -265,25 +265,25 @@ module _ {more : List ℕ} (asked : ℕ) (w : World) {r : Ran World Outcome} (g 
         take-append-le (min size asked) t more (omega arith),
       ) same
 
-  repeats-take : (rest : List ℕ) → (4 ≤ length rest → r ≡ take_from asked (rest ++ more) (extended more w))
+  repeats_take : (rest : List ℕ) → (4 ≤ length rest → r ≡ take_from asked (rest ++ more) (extended more w))
       → Repeats more (take_from asked rest w) r
   unfolding ◌>>◌ when stop
-  repeats-take [] h = spent g
-  repeats-take (a ∷ []) h = spent g
-  repeats-take (a ∷ b ∷ []) h = spent g
-  repeats-take (a ∷ b ∷ c ∷ []) h = spent g
-  repeats-take (a ∷ b ∷ c ∷ d ∷ t) h =
+  repeats_take [] h = spent g
+  repeats_take (a ∷ []) h = spent g
+  repeats_take (a ∷ b ∷ []) h = spent g
+  repeats_take (a ∷ b ∷ c ∷ []) h = spent g
+  repeats_take (a ∷ b ∷ c ∷ d ∷ t) h =
       rw (le-ltb (length (a ∷ b ∷ c ∷ d ∷ t)) 4 (omega arith))
-      (repeats-header a b c d t (is_garbled (a ∷ b ∷ c ∷ d ∷ t)) (is_cut (a ∷ b ∷ c ∷ d ∷ t)) refl
+      (repeats_header a b c d t (is_garbled (a ∷ b ∷ c ∷ d ∷ t)) (is_cut (a ∷ b ∷ c ∷ d ∷ t)) refl
       (rw (le-ltb (length (a ∷ b ∷ c ∷ d ∷ (t ++ more))) 4 (omega arith)) at (h (omega arith))))
 
 pub takes : {more : List ℕ} (asked : ℕ) → Extends more (take_outcome asked)
 unfolding take_outcome ◌>>=◌ look
 takes {more} asked = record {
-  grows = λ w. grows-take asked (drop w.at.taken w.outcomes) w;
+  grows = λ w. grows_take asked (drop w.at.taken w.outcomes) w;
   repeats = λ w.
       let left : List ℕ = drop w.at.taken w.outcomes in
-      repeats-take asked w (grows-take asked (drop w.at.taken (w.outcomes ++ more)) (extended more w)) left (λ h.
+      repeats_take asked w (grows_take asked (drop w.at.taken (w.outcomes ++ more)) (extended more w)) left (λ h.
       ap (λ (l : List ℕ). take_from asked l (extended more w))
       (drop-append-le w.at.taken w.outcomes more (omega (arith, length-drop w.at.taken w.outcomes))));
 }
@@ -301,9 +301,9 @@ pub ruleset Steps = (
   whens,
   eachs,
   gets,
-  gets-bytes,
-  gets-number,
-  puts-bytes,
+  gets_bytes,
+  gets_number,
+  puts_bytes,
   waits,
   frames,
   requests,

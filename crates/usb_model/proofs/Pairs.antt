@@ -13,11 +13,11 @@ use Rattle.usb_model.specs.Programs.{Ran, on, ◌>>=◌, ◌>>◌, look, caught,
 use Rattle.usb_model.specs.World.{World, M, get}
 use Rattle.usb_model.specs.Usbd.{usb_allocate_device}
 use Rattle.usb_model.specs.Kept.{Above}
-use Rattle.usb_model.proofs.Ways.{Allocates, bus-full, allocated, allocate-ends}
-use Rattle.usb_model.proofs.Keeps.{Any, Left, is-done, is-failed, is-halted, left-weaker, caught-left, skips}
-use Rattle.usb_model.proofs.Stores.{new-follows, first-new, free_new, store-onward, store-good}
-use Rattle.usb_model.proofs.Onward.{onward-same, onward-join}
-use Rattle.usb_model.proofs.Walks.{Reach, Walks, reach_here, reach-less}
+use Rattle.usb_model.proofs.Ways.{Allocates, bus_full, allocated, allocate_ends}
+use Rattle.usb_model.proofs.Keeps.{Any, Left, is-done, is_failed, is_halted, left_weaker, caught_left, skips}
+use Rattle.usb_model.proofs.Stores.{new_follows, first_new, free_new, store_onward, store_good}
+use Rattle.usb_model.proofs.Onward.{onward_same, onward_join}
+use Rattle.usb_model.proofs.Walks.{Reach, Walks, reach_here, reach_less}
 
 -- how two programs that do the same end
 pub record Same {A : Type 0} (P : World → Type 0) (Q : A → Type 0) (r r' : Ran World A) : Type 0 where
@@ -32,22 +32,22 @@ Alike u n m m' = Pairs u n m m' Any
 
 weaker : {A : Type 0} {P P' : World → Type 0} {Q : A → Type 0} {r r' : Ran World A} → ((w : World) → P w → P' w) → Same P Q r r'
     → Same P' Q r r'
-weaker f s = record { equal = s.equal; walk = left-weaker f s.walk }
+weaker f s = record { equal = s.equal; walk = left_weaker f s.walk }
 
 module _ {u : World} {n : ℕ} where
   -- one program
   pub one : {A : Type 0} {Q : A → Type 0} {m : M A} → Walks u n m Q → Pairs u n m m Q
   one h = record { run = λ w x. record { equal = refl; walk = h.run w x } }
 
-  same-on : {A B : Type 0} {Q : A → Type 0} {Q' : B → Type 0} {r : Ran World A} {f f' : A → M B} → Left (Reach u n) Q r
+  same_on : {A B : Type 0} {Q : A → Type 0} {Q' : B → Type 0} {r : Ran World A} {f f' : A → M B} → Left (Reach u n) Q r
       → ((a : A) → Q a → Pairs u n (f a) (f' a) Q') → Same (Reach u n) Q' (on r f) (on r f')
-  same-on (is-done {a} {s} x q) h = (h a q).run s x
-  same-on (is-failed x) h = record { equal = refl; walk = is-failed x }
-  same-on (is-halted x) h = record { equal = refl; walk = is-halted x }
+  same_on (is-done {a} {s} x q) h = (h a q).run s x
+  same_on (is_failed x) h = record { equal = refl; walk = is_failed x }
+  same_on (is_halted x) h = record { equal = refl; walk = is_halted x }
 
   then_same : {A B : Type 0} {Q : A → Type 0} {Q' : B → Type 0} {r r' : Ran World A} {f f' : A → M B} → Same (Reach u n) Q r r'
       → ((a : A) → Q a → Pairs u n (f a) (f' a) Q') → Same (Reach u n) Q' (on r f) (on r' f')
-  then_same {Q'} {r} {f} {f'} s h = subst (λ x. Same (Reach u n) Q' (on r f) (on x f')) s.equal (same-on s.walk h)
+  then_same {Q'} {r} {f} {f'} s h = subst (λ x. Same (Reach u n) Q' (on r f) (on x f')) s.equal (same_on s.walk h)
 
   pub bind₂ : {A B : Type 0} {Q : A → Type 0} {Q' : B → Type 0} {m m' : M A} {f f' : A → M B} → Pairs u n m m' Q
       → ((a : A) → Q a → Pairs u n (f a) (f' a) Q') → Pairs u n (m >>= f) (m' >>= f') Q'
@@ -70,7 +70,7 @@ module _ {u : World} {n : ℕ} where
 
   pub attempts₂ : {m m' : M (Unit {0})} → Alike u n m m' → Alike u n (attempt m) (attempt m')
   unfolding attempt
-  attempts₂ p = record { run = λ w x. record { equal = ap caught (p.run w x).equal; walk = caught-left (p.run w x).walk } }
+  attempts₂ p = record { run = λ w x. record { equal = ap caught (p.run w x).equal; walk = caught_left (p.run w x).walk } }
 
   pub ignores₂ : {m m' : M (Unit {0})} → Alike u n m m' → Alike u n (ignore m) (ignore m')
   unfolding ignore
@@ -96,7 +96,7 @@ module _ {u : World} {n : ℕ} where
     run = λ w x.
         let stands : eqb (byte_at w.store hub (child_field port)) 0 ≡ false → Above w.store hub port =
         λ e. x.good.child hub port h (eqb-false (byte_at w.store hub (child_field port)) 0 e) in
-        weaker (λ v. reach-less (onward-same u) x.used)
+        weaker (λ v. reach_less (onward_same u) x.used)
         ((f (byte_at w.store hub (child_field port)) (first_unused w.store) x.used (λ e. ((stands e).above, (stands e).used))).run w
         (record { onward = x.onward; good = x.good; used = omega arith }));
   }
@@ -106,21 +106,21 @@ module _ {u : World} {n : ℕ} where
       → ((v : World) (place : ℕ) → free_places v.store < free_places u.store → n ≤ place → place < 32 → Pairs v (place + 1) (f place) (f' place) Q)
       → Pairs u n (usb_allocate_device >>= f) (usb_allocate_device >>= f') Q
   unfolding ◌>>=◌
-  allocate₂ {B} {Q} {f} {f'} h = record { run = λ w x. go w x (allocate-ends w) }
+  allocate₂ {B} {Q} {f} {f'} h = record { run = λ w x. go w x (allocate_ends w) }
     where
       go : (w : World) → Reach u n w → {r : Ran World ℕ} → Allocates w r → Same (Reach u n) Q (on r f) (on r f')
-      go w x bus-full = record { equal = refl; walk = is-failed x }
+      go w x bus_full = record { equal = refl; walk = is_failed x }
       go w x (allocated {p} e inside) =
-          let s = new-follows x.good p e inside in
-          let o = store-onward _ s in
-          weaker (λ v. reach-less (onward-join x.onward o) (omega (arith, e, x.used)))
+          let s = new_follows x.good p e inside in
+          let o = store_onward _ s in
+          weaker (λ v. reach_less (onward_join x.onward o) (omega (arith, e, x.used)))
           ((h _ p (omega (arith, free_new x.good p e inside, x.onward.free)) (omega (arith, e, x.used)) inside).run _
-          (reach_here _ (store-good _ s x.good) (first-new x.good p e inside)))
+          (reach_here _ (store_good _ s x.good) (first_new x.good p e inside)))
 
 -- where more is known, of a program that does so from every world
 pub known : {u : World} {n m : ℕ} {A : Type 0} {Q : A → Type 0} {p p' : M A} → n ≤ m → ((v : World) → Pairs v n p p' Q) → Pairs u m p p' Q
 known {u} {n} {m} h p = record {
   run = λ w x. weaker
-      (λ v y. record { onward = onward-join x.onward y.onward; good = y.good; used = omega (arith, x.used, y.onward.first) })
+      (λ v y. record { onward = onward_join x.onward y.onward; good = y.good; used = omega (arith, x.used, y.onward.first) })
       ((p w).run w (reach_here w x.good (omega (arith, x.used))));
 }

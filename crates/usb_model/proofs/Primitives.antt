@@ -9,76 +9,76 @@ use lib.ListN.{length, take, drop, length-take, length-drop}
 use Rattle.usb_types.specs.Numbers.{little_endian}
 use Rattle.usb_types.specs.Actions.{request_action, wait_action, frame_interval_action, packet_size}
 use Rattle.usb_types.specs.Requests.{direction_bit}
-use Rattle.usb_types.proofs.LittleEndian.{length-le}
-use Rattle.usb_types.proofs.Lengths.{request-length, wait-length, frame-length}
+use Rattle.usb_types.proofs.LittleEndian.{length_le}
+use Rattle.usb_types.proofs.Lengths.{request_length, wait_length, frame_length}
 use Rattle.usb_types.specs.declared.request.UsbDeviceRequest.{UsbDeviceRequest}
 use Rattle.usb_types.specs.declared.pipe.UsbPipeAddress.{UsbPipeAddress}
 use Rattle.usb_store.specs.Layout.{child_field, max_children_field, error_field, last_transfer_field}
 use Rattle.usb_store.proofs.Fields.{bytes_most}
-use Rattle.usb_store.proofs.Writes.{length-write}
-use Rattle.usb_device.proofs.Free.{first-most}
+use Rattle.usb_store.proofs.Writes.{length_write}
+use Rattle.usb_device.proofs.Free.{first_most}
 use Rattle.usb_model.specs.Programs.{Ran}
 use Rattle.usb_model.specs.World.{World, with_store, get, get_bytes, get_number, put, put_bytes, put_number, log_action, log_request, micro_delay, dwc_update_host_frame_interval}
 use Rattle.usb_model.specs.Transfer.{Outcome, taken, outcomes_left, size_of, outcome_of, take_outcome, Buffer, usb_control_message, control, read}
 use Rattle.usb_model.specs.Kept.{Bytes, kinds_in, requests_in, is_kind, Good, Onward}
-use Rattle.usb_model.proofs.Bytes.{bytes_one, bytes-cons, bytes-append, zeros, bytes_le, bytes_take, bytes_drop, bytes-write, bytes-at, byte-at}
-use Rattle.usb_model.proofs.Onward.{onward-same}
-use Rattle.usb_model.proofs.Stores.{Plain, plain-low, plain-less, none-follows, plain_follows, most-follows, child-follows, store-onward, store-good, Follows}
-use Rattle.usb_model.proofs.Keeps.{Any, Left, is-done, is-halted, bind, next, gives, throws, looks, changes, succeeds, whens}
-use Rattle.usb_model.proofs.Ways.{logged_world, Logs, full, logged, log-ends, request-ends, Takes, missing, whole, take_ends}
-use Rattle.usb_model.proofs.Walks.{Reach, Walks, Goes, reach-on}
+use Rattle.usb_model.proofs.Bytes.{bytes_one, bytes_cons, bytes_append, zeros, bytes_le, bytes_take, bytes_drop, bytes_write, bytes-at, byte-at}
+use Rattle.usb_model.proofs.Onward.{onward_same}
+use Rattle.usb_model.proofs.Stores.{Plain, plain_low, plain_less, none_follows, plain_follows, most_follows, child_follows, store_onward, store_good, Follows}
+use Rattle.usb_model.proofs.Keeps.{Any, Left, is-done, is_halted, bind, next, gives, throws, looks, changes, succeeds, whens}
+use Rattle.usb_model.proofs.Ways.{logged_world, Logs, full, logged, log_ends, request_ends, Takes, missing, whole, take_ends}
+use Rattle.usb_model.proofs.Walks.{Reach, Walks, Goes, reach_on}
 
 -- ---- the store
 
 written : {u w : World} {n : ℕ} (t : List ℕ) → Reach u n w → Follows w.store t → Reach u n (with_store t w)
-written t r f = reach-on r (store-onward t f) (store-good t f r.good)
+written t r f = reach_on r (store_onward t f) (store_good t f r.good)
 
 module _ {u : World} {n : ℕ} where
   pub gets : (p f : ℕ) → Walks u n (get p f) (λ v. v < 256)
   unfolding get
   gets p f = looks _ (λ w r. byte-at w.store p f r.good.store)
 
-  pub gets-most : (p : ℕ) → Walks u n (get p max_children_field) (λ v. v ≤ 10)
+  pub gets_most : (p : ℕ) → Walks u n (get p max_children_field) (λ v. v ≤ 10)
   unfolding get
-  gets-most p = looks _ (λ w r. r.good.most p)
+  gets_most p = looks _ (λ w r. r.good.most p)
 
-  pub gets-number : (p f k : ℕ) → Goes u n (get_number p f k)
+  pub gets_number : (p f k : ℕ) → Goes u n (get_number p f k)
   unfolding get_number
-  gets-number p f k = looks _ (λ w r. tt)
+  gets_number p f k = looks _ (λ w r. tt)
 
-  pub gets-bytes : (p f k : ℕ) → Walks u n (get_bytes p f k) (λ bytes. Bytes bytes × (length bytes ≤ k))
+  pub gets_bytes : (p f k : ℕ) → Walks u n (get_bytes p f k) (λ bytes. Bytes bytes × (length bytes ≤ k))
   unfolding get_bytes
-  gets-bytes p f k = looks _ (λ w r. (bytes-at w.store p f k r.good.store, bytes_most w.store p f k))
+  gets_bytes p f k = looks _ (λ w r. (bytes-at w.store p f k r.good.store, bytes_most w.store p f k))
 
   puts_none : (p f : ℕ) → Goes u n (put_bytes p f [])
   unfolding put_bytes
-  puts_none p f = changes _ (λ w x. written _ x (none-follows x.good p f))
+  puts_none p f = changes _ (λ w x. written _ x (none_follows x.good p f))
 
-  pub puts-bytes : (p f k : ℕ) (vs : List ℕ) → Plain f k → length vs ≤ k → Bytes vs → Goes u n (put_bytes p f vs)
+  pub puts_bytes : (p f k : ℕ) (vs : List ℕ) → Plain f k → length vs ≤ k → Bytes vs → Goes u n (put_bytes p f vs)
   unfolding put_bytes
-  puts-bytes p f k vs r l b = changes _ (λ w x. written _ x (plain_follows x.good p f vs (plain-less l r) b))
+  puts_bytes p f k vs r l b = changes _ (λ w x. written _ x (plain_follows x.good p f vs (plain_less l r) b))
 
   pub puts : (p f v : ℕ) → Plain f 1 → v < 256 → Goes u n (put p f v)
-  puts p f v r l = puts-bytes p f 1 (v ∷ []) r (omega arith) (bytes_one l)
+  puts p f v r l = puts_bytes p f 1 (v ∷ []) r (omega arith) (bytes_one l)
 
-  pub puts-number : (p f k v : ℕ) → Plain f k → Goes u n (put_number p f k v)
-  puts-number p f k v r = puts-bytes p f k (little_endian k v) r (omega (arith, length-le k v)) (bytes_le k v)
+  pub puts_number : (p f k v : ℕ) → Plain f k → Goes u n (put_number p f k v)
+  puts_number p f k v r = puts_bytes p f k (little_endian k v) r (omega (arith, length_le k v)) (bytes_le k v)
 
-  pub puts-most : (p v : ℕ) → p < n → v ≤ 10 → Goes u n (put p max_children_field v)
+  pub puts_most : (p v : ℕ) → p < n → v ≤ 10 → Goes u n (put p max_children_field v)
   unfolding put_bytes
-  puts-most p v h l = changes _ (λ w x. written _ x (most-follows x.good p v (omega (arith, x.used, first-most w.store)) l))
+  puts_most p v h l = changes _ (λ w x. written _ x (most_follows x.good p v (omega (arith, x.used, first_most w.store)) l))
 
-  pub puts-child : (p j c : ℕ) → j < 10 → p + 1 < c → c ≤ n → Goes u n (put p (child_field j) c)
+  pub puts_child : (p j c : ℕ) → j < 10 → p + 1 < c → c ≤ n → Goes u n (put p (child_field j) c)
   unfolding put_bytes
-  puts-child p j c h above low =
+  puts_child p j c h above low =
       changes _
-      (λ w x. written _ x (child-follows x.good p j c (omega (arith, x.used, first-most w.store)) h above (omega (arith, x.used))))
+      (λ w x. written _ x (child_follows x.good p j c (omega (arith, x.used, first_most w.store)) h above (omega (arith, x.used))))
 
 -- ---- the log
 
-pub log-onward : {w : World} (action : List ℕ) (requests : ℕ) → length action ≡ 16 → kinds_in is_kind 1 action ≡ 1
+pub log_onward : {w : World} (action : List ℕ) (requests : ℕ) → length action ≡ 16 → kinds_in is_kind 1 action ≡ 1
     → requests ≡ w.at.requests + requests_in 1 action → Onward w (logged_world w action requests)
-log-onward {w} action requests long kind e = record {
+log_onward {w} action requests long kind e = record {
   store = refl;
   free = omega arith;
   first = omega arith;
@@ -86,56 +86,56 @@ log-onward {w} action requests long kind e = record {
   taken = omega arith;
   actions = 1;
   news = action;
-  news-length = long;
+  news_length = long;
   kinds = kind;
   log = refl;
   logged = refl;
   requests = e;
 }
 
-pub log-good : {w : World} (action : List ℕ) (requests : ℕ) → Bytes action → w.at.logged + 16 ≤ length w.log → Good w
+pub log_good : {w : World} (action : List ℕ) (requests : ℕ) → Bytes action → w.at.logged + 16 ≤ length w.log → Good w
     → Good (logged_world w action requests)
-log-good {w} action requests b room g = record {
+log_good {w} action requests b room g = record {
   whole = g.whole;
-  logged = omega (arith, length-write w.log w.at.logged action);
+  logged = omega (arith, length_write w.log w.at.logged action);
   taken = g.taken;
   store = g.store;
-  log = bytes-write w.log w.at.logged action g.log b;
+  log = bytes_write w.log w.at.logged action g.log b;
   outcomes = g.outcomes;
   most = g.most;
   child = g.child;
 }
 
 module _ {u : World} {n : ℕ} (action : List ℕ) (long : length action ≡ 16) (kind : kinds_in is_kind 1 action ≡ 1) (b : Bytes action) where
-  log-left : {w : World} {r : Ran World (Unit {0})} (requests : ℕ) → requests ≡ w.at.requests + requests_in 1 action → Reach u n w
+  log_left : {w : World} {r : Ran World (Unit {0})} (requests : ℕ) → requests ≡ w.at.requests + requests_in 1 action → Reach u n w
       → Logs action w requests r
       → Left (Reach u n) Any r
-  log-left requests e x full = is-halted x
-  log-left {w} requests e x (logged room) =
-      is-done (reach-on x (log-onward action requests long kind e) (log-good {w = w} action requests b (omega (arith, room, x.good.logged)) x.good)) tt
+  log_left requests e x full = is_halted x
+  log_left {w} requests e x (logged room) =
+      is-done (reach_on x (log_onward action requests long kind e) (log_good {w = w} action requests b (omega (arith, room, x.good.logged)) x.good)) tt
 
   -- an action that is no request
   pub logs : requests_in 1 action ≡ 0 → Goes u n (log_action action)
-  logs none = record { run = λ w x. log-left _ (omega (arith, none)) x (log-ends action w) }
+  logs none = record { run = λ w x. log_left _ (omega (arith, none)) x (log_ends action w) }
 
   -- a request, which is counted
   pub sends : requests_in 1 action ≡ 1 → Goes u n (log_request action)
-  sends one = record { run = λ w x. log-left _ (omega (arith, one)) x (request-ends action w) }
+  sends one = record { run = λ w x. log_left _ (omega (arith, one)) x (request_ends action w) }
 
-pub wait-bytes : (microseconds : ℕ) → Bytes (wait_action microseconds)
-wait-bytes microseconds = bytes-append (bytes-cons (omega arith) (zeros 7)) (bytes-append (bytes_le 4 microseconds) (zeros 4))
+pub wait_bytes : (microseconds : ℕ) → Bytes (wait_action microseconds)
+wait_bytes microseconds = bytes_append (bytes_cons (omega arith) (zeros 7)) (bytes_append (bytes_le 4 microseconds) (zeros 4))
 
-pub frame-bytes : Bytes frame_interval_action
-frame-bytes = bytes-cons (omega arith) (zeros 15)
+pub frame_bytes : Bytes frame_interval_action
+frame_bytes = bytes_cons (omega arith) (zeros 15)
 
 module _ {u : World} {n : ℕ} where
   pub waits : (microseconds : ℕ) → Goes u n (micro_delay microseconds)
   unfolding micro_delay kinds_in
-  waits microseconds = logs (wait_action microseconds) (wait-length microseconds) refl (wait-bytes microseconds) refl
+  waits microseconds = logs (wait_action microseconds) (wait_length microseconds) refl (wait_bytes microseconds) refl
 
   pub frames : Goes u n dwc_update_host_frame_interval
   unfolding dwc_update_host_frame_interval kinds_in
-  frames = logs frame_interval_action frame-length refl frame-bytes refl
+  frames = logs frame_interval_action frame_length refl frame_bytes refl
 
 -- ---- a control message
 
@@ -144,17 +144,17 @@ pub record Byte-codes (q : UsbDeviceRequest) : Type 0 where
   pub type : q.request_type < 256
   pub code : q.request < 256
 
-direction-low : (t : ℕ) → direction_bit t < 256
+direction_low : (t : ℕ) → direction_bit t < 256
 unfolding direction_bit
-direction-low t = go (leb 128 t)
+direction_low t = go (leb 128 t)
   where
     go : (b : Bool) → cond {A = ℕ} b 1 0 < 256
     go true = omega arith
     go false = omega arith
 
-pub packet-low : (n : ℕ) → packet_size n < 256
+pub packet_low : (n : ℕ) → packet_size n < 256
 unfolding packet_size
-packet-low n = go (ltb n 9) (ltb n 17) (ltb n 33)
+packet_low n = go (ltb n 9) (ltb n 17) (ltb n 33)
   where
     go : (a b c : Bool) → cond {A = ℕ} a 0 (cond b 1 (cond c 2 3)) < 256
     go true b c = omega arith
@@ -162,16 +162,16 @@ packet-low n = go (ltb n 9) (ltb n 17) (ltb n 33)
     go false false true = omega arith
     go false false false = omega arith
 
-pub request-bytes : (pipe : UsbPipeAddress) (q : UsbDeviceRequest) → pipe.device < 256 → pipe.speed < 256 → pipe.max_size < 256
+pub request_bytes : (pipe : UsbPipeAddress) (q : UsbDeviceRequest) → pipe.device < 256 → pipe.speed < 256 → pipe.max_size < 256
     → Byte-codes q → Bytes (request_action pipe q)
-request-bytes pipe q a s m c =
-    bytes-cons (omega arith) (bytes-cons a (bytes-cons (direction-low q.request_type)
-    (bytes-cons s (bytes-cons m (bytes-cons (omega arith) (bytes-cons (omega arith) (bytes-cons (omega arith)
-    (bytes-cons c.type (bytes-cons c.code (bytes-append (bytes_le 2 q.value) (bytes-append (bytes_le 2 q.index) (bytes_le 2 q.length))))))))))))
+request_bytes pipe q a s m c =
+    bytes_cons (omega arith) (bytes_cons a (bytes_cons (direction_low q.request_type)
+    (bytes_cons s (bytes_cons m (bytes_cons (omega arith) (bytes_cons (omega arith) (bytes_cons (omega arith)
+    (bytes_cons c.type (bytes_cons c.code (bytes_append (bytes_le 2 q.value) (bytes_append (bytes_le 2 q.index) (bytes_le 2 q.length))))))))))))
 
-took-onward : {w : World} (k : ℕ) → Onward w (taken k w)
-took-onward {w} k =
-    let o : Onward w w = onward-same w in
+took_onward : {w : World} (k : ℕ) → Onward w (taken k w)
+took_onward {w} k =
+    let o : Onward w w = onward_same w in
     record {
       store = refl;
       free = omega arith;
@@ -180,15 +180,15 @@ took-onward {w} k =
       taken = omega arith;
       actions = o.actions;
       news = o.news;
-      news-length = o.news-length;
+      news_length = o.news_length;
       kinds = o.kinds;
       log = o.log;
       logged = o.logged;
       requests = o.requests;
     }
 
-pub took-good : {w : World} (k : ℕ) → w.at.taken + k ≤ length w.outcomes → Good w → Good (taken k w)
-took-good k l g = record {
+pub took_good : {w : World} (k : ℕ) → w.at.taken + k ≤ length w.outcomes → Good w → Good (taken k w)
+took_good k l g = record {
   whole = g.whole;
   logged = g.logged;
   taken = l;
@@ -199,8 +199,8 @@ took-good k l g = record {
   child = g.child;
 }
 
-pub delivered-bytes : {w : World} (asked : ℕ) → Good w → Bytes (outcome_of asked (outcomes_left w)).delivered
-delivered-bytes {w} asked g =
+pub delivered_bytes : {w : World} (asked : ℕ) → Good w → Bytes (outcome_of asked (outcomes_left w)).delivered
+delivered_bytes {w} asked g =
     let left : List ℕ = outcomes_left w in
     bytes_take (min (size_of left) asked) (drop 4 left) (bytes_drop 4 left (bytes_drop w.at.taken w.outcomes g.outcomes))
 
@@ -208,20 +208,20 @@ pub takes : {u : World} {n : ℕ} (asked : ℕ) → Walks u n (take_outcome aske
 takes {u} {n} asked = record { run = λ w x. go w x (take_ends asked w) }
   where
     go : (w : World) → Reach u n w → {r : Ran World Outcome} → Takes asked w r → Left (Reach u n) (λ (o : Outcome). Bytes o.delivered) r
-    go w x missing = is-halted x
+    go w x missing = is_halted x
     go w x (whole l) =
-        is-done (reach-on x (took-onward (4 + size_of (outcomes_left w)))
-        (took-good (4 + size_of (outcomes_left w)) (omega (arith, l, length-drop w.at.taken w.outcomes, x.good.taken)) x.good))
-        (delivered-bytes asked x.good)
+        is-done (reach_on x (took_onward (4 + size_of (outcomes_left w)))
+        (took_good (4 + size_of (outcomes_left w)) (omega (arith, l, length-drop w.at.taken w.outcomes, x.good.taken)) x.good))
+        (delivered_bytes asked x.good)
 
 -- where delivered bytes may go: no key of the place
 pub data Fits (b : Buffer) : Type 0 where
-  room-none : b.room ≡ 0 → Fits b
+  room_none : b.room ≡ 0 → Fits b
   plain : Plain b.field b.room → Fits b
 
 delivers : {u : World} {n : ℕ} (p : ℕ) (b : Buffer) (vs : List ℕ) → Fits b → Bytes vs → Goes u n (put_bytes p b.field (take b.room vs))
-delivers p b vs (room-none e) c = rw e (puts_none p b.field)
-delivers p b vs (plain r) c = puts-bytes p b.field b.room _ r (omega (arith, length-take b.room vs)) (bytes_take b.room vs c)
+delivers p b vs (room_none e) c = rw e (puts_none p b.field)
+delivers p b vs (plain r) c = puts_bytes p b.field b.room _ r (omega (arith, length-take b.room vs)) (bytes_take b.room vs c)
 
 module _ {u : World} {n : ℕ} (p : ℕ) (q : UsbDeviceRequest) (b : Buffer) (c : Byte-codes q) (fits : Fits b) where
   pub messages : (address : ℕ) → address < 256 → Walks u n (usb_control_message p address q b) Bytes
@@ -230,11 +230,11 @@ module _ {u : World} {n : ℕ} (p : ℕ) (q : UsbDeviceRequest) (b : Buffer) (c 
       bind (gets p _) λ speed s.
       bind (gets p _) λ size _.
       let pipe : UsbPipeAddress = record { device = address; speed = speed; max_size = packet_size size } in
-      next (sends (request_action pipe q) (request-length pipe q) refl (request-bytes pipe q h s (packet-low size) c) refl) (
+      next (sends (request_action pipe q) (request_length pipe q) refl (request_bytes pipe q h s (packet_low size) c) refl) (
       bind (takes _) λ o d.
-      next (puts-number p error_field 4 _ (plain-low (omega arith) (omega arith))) (
+      next (puts_number p error_field 4 _ (plain_low (omega arith) (omega arith))) (
       next (delivers p b o.delivered fits d) (
-      next (puts-number p last_transfer_field 4 _ (plain-low (omega arith) (omega arith))) (
+      next (puts_number p last_transfer_field 4 _ (plain_low (omega arith) (omega arith))) (
       next (succeeds _) (gives _ d)))))
 
   pub controls : Walks u n (control p q b) Bytes

@@ -11,7 +11,7 @@ use Rattle.usb_types.specs.Answers.{halt_number}
 use Rattle.usb_types.specs.declared.types.Halt.TheVariants.{OutcomesSpent}
 use Rattle.usb_types.specs.declared.request.UsbDeviceRequest.{UsbDeviceRequest}
 use Rattle.usb_store.specs.Access.{write}
-use Rattle.usb_store.proofs.Writes.{take-write, length-write}
+use Rattle.usb_store.proofs.Writes.{take_write, length_write}
 use Rattle.usb_device.specs.Device.{first_unused}
 use Rattle.usb_model.specs.Programs.{Ran, done, fail, halt, end_of}
 use Rattle.usb_model.specs.World.{World, M}
@@ -54,25 +54,25 @@ module _ {more : List ℕ} where
   unfolding usb_allocate_device
   allocates = bind (looks first_unused) (search Steps)
 
-  read-hub-descriptor : (p : ℕ) → Extends more (hub_read_descriptor p)
+  read_hub_descriptor : (p : ℕ) → Extends more (hub_read_descriptor p)
   unfolding hub_read_descriptor usb_get_descriptor
-  read-hub-descriptor p = search (Steps, reads) depth 20
+  read_hub_descriptor p = search (Steps, reads) depth 20
 
-  get-status : (p : ℕ) → Extends more (hub_get_status p)
+  get_status : (p : ℕ) → Extends more (hub_get_status p)
   unfolding hub_get_status
-  get-status p = search (Steps, reads)
+  get_status p = search (Steps, reads)
 
-  change-feature : (p feature port : ℕ) (set : Bool) → Extends more (hub_change_port_feature p feature port set)
+  change_feature : (p feature port : ℕ) (set : Bool) → Extends more (hub_change_port_feature p feature port set)
   unfolding hub_change_port_feature
-  change-feature p feature port set = search (Steps, controls)
+  change_feature p feature port set = search (Steps, controls)
 
-  power-on : (p : ℕ) → Extends more (hub_power_on p)
+  power_on : (p : ℕ) → Extends more (hub_power_on p)
   unfolding hub_power_on
-  power-on p = search (Steps, change-feature) depth 20
+  power_on p = search (Steps, change_feature) depth 20
 
-  port-get-status : (p port : ℕ) → Extends more (hub_port_get_status p port)
+  port_get_status : (p port : ℕ) → Extends more (hub_port_get_status p port)
   unfolding hub_port_get_status
-  port-get-status p port = search (Steps, reads)
+  port_get_status p port = search (Steps, reads)
 
   port-status : (p port : ℕ) → Extends more (port_status p port)
   unfolding port_status
@@ -81,25 +81,25 @@ module _ {more : List ℕ} where
   await-reset : (count p port : ℕ) → Extends more (await_reset count p port)
   unfolding await_reset
   await-reset zero p port = search Steps
-  await-reset (suc count) p port = let less = await-reset count p port in search (Steps, port-get-status, port-status) depth 20
+  await-reset (suc count) p port = let less = await-reset count p port in search (Steps, port_get_status, port-status) depth 20
 
   reset2 : (p port : ℕ) → Extends more (hub_port_reset2 p port)
   unfolding hub_port_reset2
-  reset2 p port = search (Steps, change-feature, await-reset) depth 20
+  reset2 p port = search (Steps, change_feature, await-reset) depth 20
 
   await-enabled : (count p port : ℕ) → Extends more (await_enabled count p port)
   unfolding await_enabled
   await-enabled zero p port = search Steps
-  await-enabled (suc count) p port = let less = await-enabled count p port in search (Steps, port-get-status, port-status) depth 20
+  await-enabled (suc count) p port = let less = await-enabled count p port in search (Steps, port_get_status, port-status) depth 20
 
   tries : (count p port : ℕ) → Extends more (reset_tries count p port)
   unfolding reset_tries
   tries zero p port = search Steps
-  tries (suc count) p port = let less = tries count p port in search (Steps, change-feature, await-enabled, port-status) depth 20
+  tries (suc count) p port = let less = tries count p port in search (Steps, change_feature, await-enabled, port-status) depth 20
 
   reset : (p port : ℕ) → Extends more (hub_port_reset p port)
   unfolding hub_port_reset
-  reset p port = search (Steps, tries, change-feature) depth 20
+  reset p port = search (Steps, tries, change_feature) depth 20
 
   port-of-child : (p child : ℕ) → Extends more (port_of_child p child)
   unfolding port_of_child
@@ -111,44 +111,44 @@ module _ {more : List ℕ} where
 
   -- the functions that call each other, over an attach that extends
   module _ (attach : ℕ → M (Unit {0})) (attaches : (place : ℕ) → Extends more (attach place)) where
-    connection-changed : (p port : ℕ) → Extends more (hub_port_connection_changed attach p port)
+    connection_changed : (p port : ℕ) → Extends more (hub_port_connection_changed attach p port)
     unfolding hub_port_connection_changed
-    connection-changed p port = search (Steps, port-get-status, port-status, change-feature, reset2, allocates) depth 40
+    connection_changed p port = search (Steps, port_get_status, port-status, change_feature, reset2, allocates) depth 40
 
-    check-connection : (p port : ℕ) → Extends more (hub_check_connection attach p port)
+    check_connection : (p port : ℕ) → Extends more (hub_check_connection attach p port)
     unfolding hub_check_connection
-    check-connection p port = search (Steps, port-get-status, port-status, change-feature, power-on, connection-changed) depth 40
+    check_connection p port = search (Steps, port_get_status, port-status, change_feature, power_on, connection_changed) depth 40
 
-    check-device : (p child : ℕ) → Extends more (hub_check_connection_device attach p child)
+    check_device : (p child : ℕ) → Extends more (hub_check_connection_device attach p child)
     unfolding hub_check_connection_device
-    check-device p child = search (Steps, port-of-child, check-connection) depth 20
+    check_device p child = search (Steps, port-of-child, check_connection) depth 20
 
     hub-attach : (p : ℕ) → Extends more (hub_attach attach p)
     unfolding hub_attach
-    hub-attach p = search (Steps, read-hub-descriptor, get-status, power-on, check-connection) depth 40
+    hub-attach p = search (Steps, read_hub_descriptor, get_status, power_on, check_connection) depth 40
 
-    attach-device : (p : ℕ) → Extends more (usb_attach_device attach p)
+    attach_device : (p : ℕ) → Extends more (usb_attach_device attach p)
     unfolding usb_attach_device
-    attach-device p = search (Steps, read-device-descriptor, set-address, configures, hub-attach) depth 40
+    attach_device p = search (Steps, read-device-descriptor, set-address, configures, hub-attach) depth 40
 
     scan-port : (below : ℕ → M (Unit {0})) → ((place : ℕ) → Extends more (below place)) → (p port : ℕ)
         → Extends more (scan_port attach below p port)
     unfolding scan_port
-    scan-port below scans p port = search (Steps, check-connection) depth 20
+    scan-port below scans p port = search (Steps, check_connection) depth 20
 
-    check-for-change : (above p : ℕ) → Extends more (hub_check_for_change attach above p)
+    check_for_change : (above p : ℕ) → Extends more (hub_check_for_change attach above p)
     unfolding hub_check_for_change
-    check-for-change zero p = search Steps
-    check-for-change (suc above) p = let less = check-for-change above in search (Steps, scan-port) depth 20
+    check_for_change zero p = search Steps
+    check_for_change (suc above) p = let less = check_for_change above in search (Steps, scan-port) depth 20
 
   attach-below : (free p : ℕ) → Extends more (attach_below free p)
   unfolding attach_below
   attach-below zero p = search Steps
-  attach-below (suc free) p = let less = attach-below free in search attach-device
+  attach-below (suc free) p = let less = attach-below free in search attach_device
 
-  root-hub : (speed : ℕ) → Extends more (usb_attach_root_hub speed)
+  root_hub : (speed : ℕ) → Extends more (usb_attach_root_hub speed)
   unfolding usb_attach_root_hub
-  root-hub speed = search (Steps, allocates, attach-below) depth 20
+  root_hub speed = search (Steps, allocates, attach-below) depth 20
 
 -- ---- what is left
 
@@ -165,18 +165,18 @@ module _ (lent : Lent) where
         same = e;
         actions = o.actions;
         news = o.news;
-        news-length = o.news-length;
+        news_length = o.news_length;
         log = o.log;
         requests = omega (arith, o.requests);
         further = p.actions;
         later = p.news;
-        later-length = p.news-length;
+        later_length = p.news_length;
         log' = log';
         requests' = p.requests;
         room =
             omega
-            (arith, h.fits (g.fits (omega arith)), p.logged, simp length-write at (ap length o.log), simp length-write at (ap length log'));
-        agree = rw log' (take-write v.log (16 * o.actions) p.news);
+            (arith, h.fits (g.fits (omega arith)), p.logged, simp length_write at (ap length o.log), simp length_write at (ap length log'));
+        agree = rw log' (take_write v.log (16 * o.actions) p.news);
       }
 
   answers : {more : List ℕ} {r r' : Ran World (Unit {0})} → Grows (start lent) (end_of r) → Repeats more r r'
@@ -199,33 +199,33 @@ module _ (lent : Lent) where
         let unchanged : World = record { store = lent.new; log = lent.log; outcomes = []; at = record { logged = 0; taken = 0; requests = 0 } } in
         goes_on unchanged unchanged still still (λ _. refl)
 
-    pub root-attach-repeated : (speed : ℕ) → Repeated lent (root_attach speed lent) (root_attach speed (with_more more lent))
+    pub root_attach_repeated : (speed : ℕ) → Repeated lent (root_attach speed lent) (root_attach speed (with_more more lent))
     unfolding root_attach root_verdict
-    root-attach-repeated speed = calls (root_verdict lent speed) _ (root-hub speed)
+    root_attach_repeated speed = calls (root_verdict lent speed) _ (root_hub speed)
 
-    pub scan-repeated : (hub : ℕ) → Repeated lent (scan hub lent) (scan hub (with_more more lent))
+    pub scan_repeated : (hub : ℕ) → Repeated lent (scan hub lent) (scan hub (with_more more lent))
     unfolding scan hub_verdict
-    scan-repeated hub = calls (hub_verdict lent hub false) _ (check-for-change attach_new (attach-below 32) 32 hub)
+    scan_repeated hub = calls (hub_verdict lent hub false) _ (check_for_change attach_new (attach-below 32) 32 hub)
 
-    pub port-check-repeated : (hub port : ℕ) → Repeated lent (port_check hub port lent) (port_check hub port (with_more more lent))
+    pub port_check_repeated : (hub port : ℕ) → Repeated lent (port_check hub port lent) (port_check hub port (with_more more lent))
     unfolding port_check hub_verdict
-    port-check-repeated hub port = calls (hub_verdict lent hub (no_port port)) _ (check-connection attach_new (attach-below 32) hub port)
+    port_check_repeated hub port = calls (hub_verdict lent hub (no_port port)) _ (check_connection attach_new (attach-below 32) hub port)
 
-    pub child-reset-repeated : (hub child : ℕ) → Repeated lent (child_reset hub child lent) (child_reset hub child (with_more more lent))
+    pub child_reset_repeated : (hub child : ℕ) → Repeated lent (child_reset hub child lent) (child_reset hub child (with_more more lent))
     unfolding child_reset hub_verdict
-    child-reset-repeated hub child = calls (hub_verdict lent hub (is_unused lent child)) _ (child-reset hub child)
+    child_reset_repeated hub child = calls (hub_verdict lent hub (is_unused lent child)) _ (child-reset hub child)
 
-    pub child-check-repeated : (hub child : ℕ) → Repeated lent (child_check hub child lent) (child_check hub child (with_more more lent))
+    pub child_check_repeated : (hub child : ℕ) → Repeated lent (child_check hub child lent) (child_check hub child (with_more more lent))
     unfolding child_check hub_verdict
-    child-check-repeated hub child =
-        calls (hub_verdict lent hub (is_unused lent child)) _ (check-device attach_new (attach-below 32) hub child)
+    child_check_repeated hub child =
+        calls (hub_verdict lent hub (is_unused lent child)) _ (check_device attach_new (attach-below 32) hub child)
 
-    pub retried-reset-repeated : (hub port : ℕ) → Repeated lent (retried_reset hub port lent) (retried_reset hub port (with_more more lent))
+    pub retried_reset_repeated : (hub port : ℕ) → Repeated lent (retried_reset hub port lent) (retried_reset hub port (with_more more lent))
     unfolding retried_reset hub_verdict
-    retried-reset-repeated hub port = calls (hub_verdict lent hub (no_port port)) _ (reset hub port)
+    retried_reset_repeated hub port = calls (hub_verdict lent hub (no_port port)) _ (reset hub port)
 
-    pub connection-change-repeated : (hub port : ℕ)
+    pub connection_change_repeated : (hub port : ℕ)
         → Repeated lent (connection_change hub port lent) (connection_change hub port (with_more more lent))
     unfolding connection_change hub_verdict
-    connection-change-repeated hub port =
-        calls (hub_verdict lent hub (no_port port)) _ (connection-changed attach_new (attach-below 32) hub port)
+    connection_change_repeated hub port =
+        calls (hub_verdict lent hub (no_port port)) _ (connection_changed attach_new (attach-below 32) hub port)

@@ -13,17 +13,17 @@ pub data Ended {A : Type 0} : Ran World A → Type 0 where
 record Succeeds {A : Type 0} (m : M A) : Type 0 where
   run : (w : World) → Ended (m w)
 
-ended-on : {A B : Type 0} {r : Ran World A} {k : A → M B} → Ended r → ((a : A) → Succeeds (k a)) → Ended (on r k)
-ended-on (finished {a} {w}) h = (h a).run w
-ended-on stopped h = stopped
+ended_on : {A B : Type 0} {r : Ran World A} {k : A → M B} → Ended r → ((a : A) → Succeeds (k a)) → Ended (on r k)
+ended_on (finished {a} {w}) h = (h a).run w
+ended_on stopped h = stopped
 
 bind : {A B : Type 0} {m : M A} {k : A → M B} → Succeeds m → ((a : A) → Succeeds (k a)) → Succeeds (m >>= k)
 unfolding ◌>>=◌
-bind p h = record { run = λ w. ended-on (p.run w) h }
+bind p h = record { run = λ w. ended_on (p.run w) h }
 
 next : {A B : Type 0} {m : M A} {k : M B} → Succeeds m → Succeeds k → Succeeds (m >> k)
 unfolding ◌>>◌
-next p h = record { run = λ w. ended-on (p.run w) (λ _. h) }
+next p h = record { run = λ w. ended_on (p.run w) (λ _. h) }
 
 skips : Succeeds skip
 unfolding skip
@@ -33,14 +33,14 @@ gets : (p f : ℕ) → Succeeds (get p f)
 unfolding get look
 gets p f = record { run = λ w. finished }
 
-ended-caught : (r : Ran World (Unit {0})) → Ended (caught r)
-ended-caught (done a w) = finished
-ended-caught (fail e w) = finished
-ended-caught (halt h w) = stopped
+ended_caught : (r : Ran World (Unit {0})) → Ended (caught r)
+ended_caught (done a w) = finished
+ended_caught (fail e w) = finished
+ended_caught (halt h w) = stopped
 
 attempts : (m : M (Unit {0})) → Succeeds (attempt m)
 unfolding attempt
-attempts m = record { run = λ w. ended-caught (m w) }
+attempts m = record { run = λ w. ended_caught (m w) }
 
 whens : (b : Bool) {m : M (Unit {0})} → Succeeds m → Succeeds (when b m)
 unfolding when
@@ -57,11 +57,11 @@ scan-port : (attach below : ℕ → M (Unit {0})) → ((place : ℕ) → Succeed
 unfolding scan_port
 scan-port attach below h hub port = bind (attempts _) λ result. bind (gets hub _) λ child. bind (gets _ _) λ data'. whens _ (h _)
 
-scan-succeeds : (attach : ℕ → M (Unit {0})) (above hub : ℕ) → Succeeds (hub_check_for_change attach above hub)
+scan_succeeds : (attach : ℕ → M (Unit {0})) (above hub : ℕ) → Succeeds (hub_check_for_change attach above hub)
 unfolding hub_check_for_change
-scan-succeeds attach zero hub = skips
-scan-succeeds attach (suc above) hub = bind (gets hub _) λ count. eachs count 0
-    (λ port. scan-port attach (hub_check_for_change attach above) (scan-succeeds attach above) hub port)
+scan_succeeds attach zero hub = skips
+scan_succeeds attach (suc above) hub = bind (gets hub _) λ count. eachs count 0
+    (λ port. scan-port attach (hub_check_for_change attach above) (scan_succeeds attach above) hub port)
 
-pub scan-ends : (attach : ℕ → M (Unit {0})) (above hub : ℕ) (w : World) → Ended (hub_check_for_change attach above hub w)
-scan-ends attach above hub w = (scan-succeeds attach above hub).run w
+pub scan_ends : (attach : ℕ → M (Unit {0})) (above hub : ℕ) (w : World) → Ended (hub_check_for_change attach above hub w)
+scan_ends attach above hub w = (scan_succeeds attach above hub).run w

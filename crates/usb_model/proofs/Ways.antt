@@ -14,7 +14,7 @@ use Rattle.usb_types.specs.declared.types.Halt.TheVariants.{GarbledOutcome, Outc
 use Rattle.usb_types.specs.declared.types.ErrorCode.TheVariants.{BusFull}
 use Rattle.usb_store.specs.Access.{write, with_bytes}
 use Rattle.usb_device.specs.Device.{new_device, first_unused}
-use Rattle.usb_device.proofs.Free.{first-most}
+use Rattle.usb_device.proofs.Free.{first_most}
 use Rattle.usb_model.specs.Programs.{Ran, done, fail, halt, on, ◌>>=◌, ◌>>◌, return, skip, throw, stop, look, change, when}
 use Rattle.usb_model.specs.World.{World, with_store, put_bytes, appended, counted, log_action, log_request}
 use Rattle.usb_model.specs.Transfer.{Outcome, taken, outcomes_left, size_of, outcome_of, take_outcome}
@@ -39,9 +39,9 @@ pub data Logs (action : List ℕ) (w : World) (requests : ℕ) : Ran World (Unit
   logged : 16 ≤ length w.log - w.at.logged → Logs action w requests (done tt (logged_world w action requests))
 
 module _ (action : List ℕ) (w : World) where
-  pub log-ends : Logs action w w.at.requests (log_action action w)
+  pub log_ends : Logs action w w.at.requests (log_action action w)
   unfolding log_action ◌>>=◌ ◌>>◌ look when stop skip change
-  log-ends = go (ltb (length w.log - w.at.logged) 16) refl
+  log_ends = go (ltb (length w.log - w.at.logged) 16) refl
     where
       go : (b : Bool) → ltb (length w.log - w.at.logged) 16 ≡ b
           → Logs action w w.at.requests (on (cond b (stop {A = Unit {0}} LogFull) skip w) (λ _. change (appended action)))
@@ -54,9 +54,9 @@ module _ (action : List ℕ) (w : World) where
   counts (logged room) = logged room
 
   -- a request is counted
-  pub request-ends : Logs action w (w.at.requests + 1) (log_request action w)
+  pub request_ends : Logs action w (w.at.requests + 1) (log_request action w)
   unfolding log_request ◌>>◌
-  request-ends = counts log-ends
+  request_ends = counts log_ends
 
 pub data Takes (asked : ℕ) (w : World) : Ran World Outcome → Type 0 where
   missing : {h : Halt} → Takes asked w (halt h w)
@@ -78,14 +78,14 @@ take_ends asked w =
     go false false false e = whole (ltb-false _ _ e)
 
 pub data Allocates (w : World) : Ran World ℕ → Type 0 where
-  bus-full : Allocates w (fail BusFull w)
+  bus_full : Allocates w (fail BusFull w)
   allocated : {p : ℕ} → p ≡ first_unused w.store → p < 32 → Allocates w (done p (with_store (with_bytes w.store p 0 (new_device p)) w))
 
-pub allocate-ends : (w : World) → Allocates w (usb_allocate_device w)
+pub allocate_ends : (w : World) → Allocates w (usb_allocate_device w)
 unfolding usb_allocate_device ◌>>=◌ ◌>>◌ look when throw skip put_bytes change return
-allocate-ends w = go (first_unused w.store) refl (eqb (first_unused w.store) 32) refl
+allocate_ends w = go (first_unused w.store) refl (eqb (first_unused w.store) 32) refl
   where
     go : (p : ℕ) → p ≡ first_unused w.store → (b : Bool) → eqb p 32 ≡ b
         → Allocates w (on (cond b (throw {A = Unit {0}} BusFull) skip w) (λ _. put_bytes p 0 (new_device p) >> return p))
-    go p e true t = bus-full
-    go p e false t = allocated e (omega (arith, eqb-false p 32 t, e, first-most w.store))
+    go p e true t = bus_full
+    go p e false t = allocated e (omega (arith, eqb-false p 32 t, e, first_most w.store))

@@ -26,7 +26,7 @@ usb_attach_device attach place = do
   when (is_hub_class class) (hub_attach attach place)
 
 -- "A hub's attach starts its children's, which may start a hub's again. Free places fall": the number bounds the free places, and a
--- device is attached only after it has taken one, so attach_below 0 is never run (proofs/Cycle.antt, `attach-fuel`)
+-- device is attached only after it has taken one, so attach_below 0 is never run (proofs/Cycle.antt, `attach_fuel`)
 unfoldable pub attach_below : ℕ → ℕ → M (Unit {0})
 attach_below zero place = skip
 attach_below (suc free) place = usb_attach_device (attach_below free) place

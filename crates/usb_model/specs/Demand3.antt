@@ -67,7 +67,7 @@ pub data Ended : Ran World (Unit {0}) → World → Type 0 where
   failed : {e : ErrorCode} {w : World} → Ended (fail e w) w
 
 -- The calls of a list, one after the other. Outcomes, log and the lent new store are each call's own, any bytes. `ran`: a call that was
--- accepted and ended in the world w leaves w's store and log (proofs/Demand3.antt, `leaves-ended`), and its n actions join the history.
+-- accepted and ended in the world w leaves w's store and log (proofs/Demand3.antt, `leaves_ended`), and its n actions join the history.
 -- `refusal`: "After an entry refusal the next call takes the same store, and the history gains nothing".
 pub data Reached : List ℕ → List Event → Type 0 where
   empty : Reached empty_store []

@@ -53,7 +53,7 @@ pub record Onward (w v : World) : Type 0 where
   -- the log grows by whole actions, at its end; the other bytes stay
   pub actions : ℕ
   pub news : List ℕ
-  pub news-length : length news ≡ action_length * actions
+  pub news_length : length news ≡ action_length * actions
   pub kinds : kinds_in is_kind actions news ≡ actions
   pub log : v.log ≡ write w.log w.at.logged news
   pub logged : v.at.logged ≡ w.at.logged + action_length * actions
@@ -77,10 +77,10 @@ pub record LentBytes (lent : Lent) : Type 0 where
 -- bytes after them as they were; each of one of the three kinds, and as many requests reported as there are actions of kind 1 among them
 pub record Accounts (lent : Lent) (left : Left) : Type 0 where
   pub answer : Listed left.answer
-  pub new-length : length left.new ≡ length lent.new
-  pub new-bytes : Bytes left.new
+  pub new_length : length left.new ≡ length lent.new
+  pub new_bytes : Bytes left.new
   pub log-length : length left.log ≡ length lent.log
-  pub log-bytes : Bytes left.log
+  pub log_bytes : Bytes left.log
   pub actions : ℕ
   pub room : action_length * actions ≤ length left.log
   pub later : drop (action_length * actions) left.log ≡ drop (action_length * actions) lent.log
@@ -90,5 +90,5 @@ pub record Accounts (lent : Lent) (left : Left) : Type 0 where
 -- of a walk alone
 pub record WalkAccounts (kept : List ℕ) (left : WalkLeft) : Type 0 where
   pub answer : Listed left.answer
-  pub kept-length : length left.kept ≡ length kept
-  pub kept-bytes : Bytes left.kept
+  pub kept_length : length left.kept ≡ length kept
+  pub kept_bytes : Bytes left.kept

@@ -19,13 +19,13 @@ pub record Repeated (lent : Lent) (left left' : Left) : Type 0 where
   -- the actions that the call logs, from the start of the log on, and the requests among them
   pub actions : ℕ
   pub news : List ℕ
-  pub news-length : length news ≡ action_length * actions
+  pub news_length : length news ≡ action_length * actions
   pub log : left.log ≡ write lent.log 0 news
   pub requests : left.requests ≡ requests_in actions news
   -- the repeat logs them too, and further ones behind them; there is room for all
   pub further : ℕ
   pub later : List ℕ
-  pub later-length : length later ≡ action_length * further
+  pub later_length : length later ≡ action_length * further
   pub log' : left'.log ≡ write left.log (action_length * actions) later
   pub requests' : left'.requests ≡ left.requests + requests_in further later
   pub room : action_length * (actions + further) ≤ length lent.log

@@ -8,49 +8,49 @@ use Rattle.usb_types.specs.declared.types.Answer.TheVariants.{Ok, Error, Stop}
 use Rattle.usb_store.specs.Layout.{place_count, hub_field, child_field, max_children_field}
 use Rattle.usb_store.specs.Access.{byte_at}
 use Rattle.usb_device.specs.Device.{first_unused, free_places}
-use Rattle.usb_device.proofs.Free.{first-most}
+use Rattle.usb_device.proofs.Free.{first_most}
 use Rattle.usb_model.specs.Programs.{◌>>=◌, each}
 use Rattle.usb_model.specs.World.{World, M, get}
 use Rattle.usb_model.specs.Hub.{hub_check_connection, scan_port, hub_check_for_change}
 use Rattle.usb_model.specs.Attach.{attach_below}
 use Rattle.usb_model.proofs.Pairs.{Alike}
-use Rattle.usb_model.proofs.Cycle.{scan-port, check-for-change}
+use Rattle.usb_model.proofs.Cycle.{scan-port, check_for_change}
 use Rattle.usb_hub.specs.Parts.{passed}
 use Rattle.usb_transfer.specs.Runs.{Ends}
-use Rattle.usb_transfer.proofs.Steps.{NotOk, NotStop, bound, bound-ended, got, got-as, done-if, done-unless, attempted, attempt-stopped, Going}
+use Rattle.usb_transfer.proofs.Steps.{NotOk, NotStop, bound, bound_ended, got, got_as, done_if, done_unless, attempted, attempt_stopped, Going}
 use Rattle.usb_driver.specs.Bus.{Bus}
 use Rattle.usb_driver.proofs.Reaches.{After, after, at_place}
 
 module _ (attach below : ℕ → M (Unit {0})) (hub port : ℕ) {w v : World} where
   -- a failed check passes over the child
-  pub passes-failed : (a : Answer) → Ends (hub_check_connection attach hub port) w a tt v → NotOk a
+  pub passes_failed : (a : Answer) → Ends (hub_check_connection attach hub port) w a tt v → NotOk a
       → Ends (scan_port attach below hub port) w (passed a) tt v
   unfolding scan_port NotOk NotStop
-  passes-failed Ok r n = absurd n
-  passes-failed (Error e) r n = bound _ (attempted r tt) (got _ _ _ (got _ _ _ (done-unless _ refl r.fit)))
-  passes-failed (Stop h) r n = bound-ended _ _ (attempt-stopped r h refl) tt
+  passes_failed Ok r n = absurd n
+  passes_failed (Error e) r n = bound _ (attempted r tt) (got _ _ _ (got _ _ _ (done_unless _ refl r.fit)))
+  passes_failed (Stop h) r n = bound_ended _ _ (attempt_stopped r h refl) tt
 
   module _ (r : Ends (hub_check_connection attach hub port) w Ok tt v) {child : ℕ} (e : child ≡ byte_at v.store hub (child_field port)) where
     pub passes_none : child ≡ 0 → Ends (scan_port attach below hub port) w Ok tt v
     unfolding scan_port NotStop
-    passes_none z = bound _ (attempted r tt) (got-as _ _ _ e (got _ _ _ (done-unless _ (simp (eq-eqb child 0 z)) r.fit)))
+    passes_none z = bound _ (attempted r tt) (got_as _ _ _ e (got _ _ _ (done_unless _ (simp (eq-eqb child 0 z)) r.fit)))
 
-    pub passes-no-hub : (child ≡ 0 → ⊥) → byte_at v.store (child - 1) hub_field ≡ 0 → Ends (scan_port attach below hub port) w Ok tt v
+    pub passes_no_hub : (child ≡ 0 → ⊥) → byte_at v.store (child - 1) hub_field ≡ 0 → Ends (scan_port attach below hub port) w Ok tt v
     unfolding scan_port NotStop
-    passes-no-hub n z = bound _ (attempted r tt) (got-as _ _ _ e (got _ _ _ (done-unless _ (simp (ne_eqb child 0 n, eq-eqb _ 0 z)) r.fit)))
+    passes_no_hub n z = bound _ (attempted r tt) (got_as _ _ _ e (got _ _ _ (done_unless _ (simp (ne_eqb child 0 n, eq-eqb _ 0 z)) r.fit)))
 
-    pub goes-below : {u : World} {a : Answer} → (child ≡ 0 → ⊥) → (byte_at v.store (child - 1) hub_field ≡ 0 → ⊥)
+    pub goes_below : {u : World} {a : Answer} → (child ≡ 0 → ⊥) → (byte_at v.store (child - 1) hub_field ≡ 0 → ⊥)
         → Ends (below (child - 1)) v a tt u → Ends (scan_port attach below hub port) w a tt u
     unfolding scan_port NotStop
-    goes-below n z d = bound _ (attempted r tt) (got-as _ _ _ e (got _ _ _ (done-if (simp (ne_eqb child 0 n, ne_eqb _ 0 z)) d)))
+    goes_below n z d = bound _ (attempted r tt) (got_as _ _ _ e (got _ _ _ (done_if (simp (ne_eqb child 0 n, ne_eqb _ 0 z)) d)))
 
 -- a child stands above its hub, at a used place
-pub child-bus : (hub port child : ℕ) {v : World}
+pub child_bus : (hub port child : ℕ) {v : World}
     → Bus hub v → port < 10 → child ≡ byte_at v.store hub (child_field port) → (child ≡ 0 → ⊥) → (hub < child - 1) × Bus (child - 1) v
-child-bus hub port child {v} b l e n =
+child_bus hub port child {v} b l e n =
     let a = b.good.child hub port l (λ z. n (e ∙ z)) in
     let used : child - 1 < first_unused v.store = omega (arith, a.above, a.used, e) in
-    (omega (arith, a.above, e), record { fit = b.fit; good = b.good; used = used; inside = omega (arith, used, first-most v.store) })
+    (omega (arith, a.above, e), record { fit = b.fit; good = b.good; used = used; inside = omega (arith, used, first_most v.store) })
 
 -- ---- the ports of a hub, one after the other
 
@@ -73,9 +73,9 @@ pub record Scanned (hub count port : ℕ) (w v : World) : Type 0 where
   pub goes : (n m : ℕ) → free_places w.store ≤ n → place_count ≤ hub + suc m
       → Going (scans_all n m hub count 0) w (scans_all n m hub (count - port) port) v
 
-scan-walks : {u : World} (free above n hub port : ℕ) → hub < n → port < 10 → Alike u n (scan free above hub port) (scan free above hub port)
-scan-walks free above n hub port h l = scan-port free hub port h l (λ v place _. check-for-change free v above place)
+scan_walks : {u : World} (free above n hub port : ℕ) → hub < n → port < 10 → Alike u n (scan free above hub port) (scan free above hub port)
+scan_walks free above n hub port h l = scan-port free hub port h l (λ v place _. check_for_change free v above place)
 
-pub scanned-after : (n m : ℕ) {hub : ℕ} (port : ℕ) {w v : World} {a : Answer} → Bus hub w → port < 10
+pub scanned_after : (n m : ℕ) {hub : ℕ} (port : ℕ) {w v : World} {a : Answer} → Bus hub w → port < 10
     → Ends (scan n m hub port) w a tt v → After hub w v
-scanned-after n m {hub} port {w} b l e = after b ((scan-walks n m (hub + 1) hub port (omega arith) l).run w (at_place b)).walk e
+scanned_after n m {hub} port {w} b l e = after b ((scan_walks n m (hub + 1) hub port (omega arith) l).run w (at_place b)).walk e

@@ -53,10 +53,10 @@ pub record Sound (s : List ℕ) : Type 0 where
   -- no unused place stands before a used one
   pub packed : (p q : ℕ) → p < q → IsUsed s q → IsUsed s p
   -- place 0's parent is 0
-  pub root-parent : byte_at s 0 parent_field ≡ 0
+  pub root_parent : byte_at s 0 parent_field ≡ 0
   -- hub 0 means bytes 43-106 are zero, hub 1 that 43-51 are
   pub no-hub : (p : ℕ) → p < place_count → byte_at s p hub_field ≡ not_hub → Zero s p hub_descriptor_field max_children_field
-  pub no-descriptor : (p : ℕ) → p < place_count → byte_at s p hub_field ≡ hub_without_descriptor → Zero s p hub_descriptor_field 51
+  pub no_descriptor : (p : ℕ) → p < place_count → byte_at s p hub_field ≡ hub_without_descriptor → Zero s p hub_descriptor_field 51
   -- bytes 107-127 and 1,096-1,151 are zero
   pub gap : (p : ℕ) → p < place_count → Zero s p 107 127
   pub tail : (p : ℕ) → p < place_count → Zero s p 1096 1151

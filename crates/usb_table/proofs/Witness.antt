@@ -16,7 +16,7 @@ use Rattle.usb_model.specs.Entry.{accepted, start}
 use Rattle.usb_model.specs.Kept.{Bytes, LentBytes}
 use Rattle.usb_model.specs.Bench.{fill_byte}
 use Rattle.usb_model.specs.Demand3.{attaches, verdict, program, Ended, finished, empty, ran}
-use Rattle.usb_model.proofs.Bytes.{bytes-nil, bytes-cons, filled}
+use Rattle.usb_model.proofs.Bytes.{bytes_nil, bytes_cons, filled}
 use Rattle.usb_model.proofs.Definitions.{definitions}
 use Rattle.usb_model.proofs.Ways.{is_done}
 use Rattle.usb_table.specs.Calls.{hub_and_device}
@@ -28,23 +28,23 @@ abbrev all_bytes : List ℕ → Bool
 all_bytes [] = true
 all_bytes (x ∷ l) = ltb x 256 && all_bytes l
 
-computed-bytes : (l : List ℕ) → all_bytes l ≡ true → Bytes l
-computed-bytes [] e = bytes-nil
-computed-bytes (x ∷ l) e = go (ltb x 256) refl (computed-bytes l) e
+computed_bytes : (l : List ℕ) → all_bytes l ≡ true → Bytes l
+computed_bytes [] e = bytes_nil
+computed_bytes (x ∷ l) e = go (ltb x 256) refl (computed_bytes l) e
   where
     go : (b : Bool) → ltb x 256 ≡ b → (all_bytes l ≡ true → Bytes l) → (b && all_bytes l) ≡ true → Bytes (x ∷ l)
-    go true t more e = bytes-cons (ltb-true x 256 t) (more e)
+    go true t more e = bytes_cons (ltb-true x 256 t) (more e)
     go false t more e = absurd (false≢true e)
 
-outcomes-bytes : all_bytes hub_and_device_lent.outcomes ≡ true
+outcomes_bytes : all_bytes hub_and_device_lent.outcomes ≡ true
 unfolding definitions hub_and_device
-outcomes-bytes = refl
+outcomes_bytes = refl
 
-lent-bytes : LentBytes hub_and_device_lent
-lent-bytes = record {
+lent_bytes : LentBytes hub_and_device_lent
+lent_bytes = record {
   old = filled 0 (omega arith) store_length;
   new = filled fill_byte (omega arith) store_length;
-  outcomes = computed-bytes _ outcomes-bytes;
+  outcomes = computed_bytes _ outcomes_bytes;
   log = filled fill_byte (omega arith) 1024;
 }
 
@@ -53,10 +53,10 @@ lent-bytes = record {
 run : Ran World (Unit {0})
 run = program (attaches 0) (start hub_and_device_lent)
 
-done-ended : (r : Ran World (Unit {0})) → is_done r ≡ true → Ended r (end_of r)
-done-ended (done a w) e = finished
-done-ended (fail c w) e = absurd (false≢true e)
-done-ended (halt h w) e = absurd (false≢true e)
+done_ended : (r : Ran World (Unit {0})) → is_done r ≡ true → Ended r (end_of r)
+done_ended (done a w) e = finished
+done_ended (fail c w) e = absurd (false≢true e)
+done_ended (halt h w) e = absurd (false≢true e)
 
 is-done : is_done run ≡ true
 unfolding definitions hub_and_device run
@@ -66,24 +66,24 @@ is-done = refl
 shown : World → List ℕ
 shown w = w.at.logged ∷ byte_at w.store 0 used_field ∷ byte_at w.store 0 status_field ∷ byte_at w.store 1 used_field ∷ byte_at w.store 1 status_field ∷ []
 
-is-shown : shown (end_of run) ≡ 528 ∷ 1 ∷ configured_status ∷ 1 ∷ configured_status ∷ []
+is_shown : shown (end_of run) ≡ 528 ∷ 1 ∷ configured_status ∷ 1 ∷ configured_status ∷ []
 unfolding definitions hub_and_device run shown
-is-shown = refl
+is_shown = refl
 
 is-accepted : verdict (attaches 0) hub_and_device_lent ≡ accepted
 unfolding definitions
 is-accepted = refl
 
--- the numbers of `is-shown`, one by one
+-- the numbers of `is_shown`, one by one
 one : (k : ℕ) → get_or (shown (end_of run)) k 0 ≡ get_or (528 ∷ 1 ∷ configured_status ∷ 1 ∷ configured_status ∷ []) k 0
-one k = ap (λ (l : List ℕ). get_or l k 0) is-shown
+one k = ap (λ (l : List ℕ). get_or l k 0) is_shown
 
 pub witness : Witness
 unfolding shown run
 witness = record {
   store = _;
   history = _;
-  reached = ran empty (attaches 0) hub_and_device_lent refl lent-bytes is-accepted (done-ended run is-done) 33 (one 0);
+  reached = ran empty (attaches 0) hub_and_device_lent refl lent_bytes is-accepted (done_ended run is-done) 33 (one 0);
   hub = record { device = (omega arith, one 1); status = one 2 };
   device = record { device = (omega arith, one 3); status = one 4 };
 }

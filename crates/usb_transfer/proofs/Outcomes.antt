@@ -8,7 +8,7 @@ use borrow.Author.Tests.{lt-ltb, le-ltb, ltb-true, eqb-true}
 use lib.Dec.{eqb, ltb}
 use lib.ListN.{length, get_or, take, drop, length-drop}
 use lib.Seq.{take_all}
-use Rattle.usb_types.proofs.LittleEndian.{number-2}
+use Rattle.usb_types.proofs.LittleEndian.{number_2}
 use Rattle.usb_types.specs.Outcomes.{listed}
 use Rattle.usb_types.specs.declared.types.Halt.TheVariants.{GarbledOutcome, OutcomesSpent}
 use Rattle.usb_model.specs.Programs.{◌>>=◌, ◌>>◌, return, stop, skip, look, change, when}
@@ -18,19 +18,19 @@ use Rattle.usb_transfer.specs.declared.outcome.NextOutcome.TheVariants.{Whole, M
 use Rattle.usb_transfer.specs.Outcomes.{Takes}
 
 pub size_is : (rest : List ℕ) → 4 ≤ length rest → size_of rest ≡ get_or rest 2 0 + get_or rest 3 0 * 256
-size_is rest h = number-2 rest 2 h
+size_is rest h = number_2 rest 2 h
 
-listed-submit : (s e : ℕ) → listed s e ≡ true → s < 10
+listed_submit : (s e : ℕ) → listed s e ≡ true → s < 10
 unfolding listed
-listed-submit s e h = go (ltb s 10) (ltb e 10 || eqb e 31) (ltb-true s 10) h
+listed_submit s e h = go (ltb s 10) (ltb e 10 || eqb e 31) (ltb-true s 10) h
   where
     go : (a b : Bool) → (a ≡ true → s < 10) → (a && b) ≡ true → s < 10
     go true b f h = f refl
     go false b f h = let z : ◌≡◌ {A = ℕ} 0 1 = cc in omega arith
 
-listed-error : (s e : ℕ) → listed s e ≡ true → e < 32
+listed_error : (s e : ℕ) → listed s e ≡ true → e < 32
 unfolding listed
-listed-error s e h = go (ltb s 10) (ltb e 10) (eqb e 31) (ltb-true e 10) (eqb-true e 31) h
+listed_error s e h = go (ltb s 10) (ltb e 10) (eqb e 31) (ltb-true e 10) (eqb-true e 31) h
   where
     go : (a b d : Bool) → (b ≡ true → e < 10) → (d ≡ true → e ≡ 31) → (a && (b || d)) ≡ true → e < 32
     go true true d f g h = let x = f refl in omega arith
@@ -44,23 +44,23 @@ module _ (rest : List ℕ) where
   takes_none h = record { is = λ asked w e. simp (e, lt-ltb _ _ h); good = tt }
 
   module _ (h : 4 ≤ length rest) where
-    pub takes-garbled : listed (get_or rest 0 0) (get_or rest 1 0) ≡ false → Takes rest (Missing GarbledOutcome)
+    pub takes_garbled : listed (get_or rest 0 0) (get_or rest 1 0) ≡ false → Takes rest (Missing GarbledOutcome)
     unfolding take_outcome ◌>>=◌ ◌>>◌ look when stop skip
-    takes-garbled g = record { is = λ asked w e. simp (e, le-ltb _ _ h, g); good = tt }
+    takes_garbled g = record { is = λ asked w e. simp (e, le-ltb _ _ h, g); good = tt }
 
     module _ (g : listed (get_or rest 0 0) (get_or rest 1 0) ≡ true) where
-      pub takes-cut : length rest < 4 + size_of rest → Takes rest (Missing OutcomesSpent)
+      pub takes_cut : length rest < 4 + size_of rest → Takes rest (Missing OutcomesSpent)
       unfolding take_outcome ◌>>=◌ ◌>>◌ look when stop skip
-      takes-cut l = record { is = λ asked w e. simp (e, le-ltb _ _ h, g, lt-ltb _ _ l); good = tt }
+      takes_cut l = record { is = λ asked w e. simp (e, le-ltb _ _ h, g, lt-ltb _ _ l); good = tt }
 
       pub takes_whole : 4 + size_of rest ≤ length rest → size_of rest < 65536
           → Takes rest (Whole (record { submit = get_or rest 0 0; error = get_or rest 1 0; size = size_of rest }))
       unfolding take_outcome ◌>>=◌ ◌>>◌ look when skip change return
       takes_whole l small = record {
         is = λ asked w e. simp (e, le-ltb _ _ h, g, le-ltb _ _ l);
-        good = record { submit = listed-submit _ _ g; error = listed-error _ _ g; small = small; inside = l };
+        good = record { submit = listed_submit _ _ g; error = listed_error _ _ g; small = small; inside = l };
       }
 
 -- what is left of the outcomes, as a part of their slice
-pub takes-left : (o : List ℕ) (t : ℕ) (r r' : NextOutcome) → Takes (take (length o - t) (drop t o)) r → r ≡ r' → Takes (drop t o) r'
-takes-left o t r r' k e = rw e at (rw (take_all (length o - t) (drop t o) (omega (arith, length-drop t o))) at k)
+pub takes_left : (o : List ℕ) (t : ℕ) (r r' : NextOutcome) → Takes (take (length o - t) (drop t o)) r → r ≡ r' → Takes (drop t o) r'
+takes_left o t r r' k e = rw e at (rw (take_all (length o - t) (drop t o) (omega (arith, length-drop t o))) at k)

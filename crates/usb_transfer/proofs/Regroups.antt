@@ -23,28 +23,28 @@ ends_as s e = record { is = sym (s.is _) ∙ e.is; fit = e.fit }
 
 -- ---- what comes after lines under a name comes after the last of them
 
-on-on : {A B C : Type 0} (r : Ran World A) (f : A → M B) (g : B → M C) {t : A → M C}
+on_on : {A B C : Type 0} (r : Ran World A) (f : A → M B) (g : B → M C) {t : A → M C}
     → ((x : A) (v : World) → on (f x v) g ≡ t x v) → on (on r f) g ≡ on r t
-on-on (done x v) f g e = e x v
-on-on (fail c v) f g e = refl
-on-on (halt h v) f g e = refl
+on_on (done x v) f g e = e x v
+on_on (fail c v) f g e = refl
+on_on (halt h v) f g e = refl
 
 module _ {A B C : Type 0} (m : M A) where
-  pub bind-next : (k : A → M B) (l : M C) {t : A → M C} → ((x : A) → Same (k x >> l) (t x)) → Same ((m >>= k) >> l) (m >>= t)
+  pub bind_next : (k : A → M B) (l : M C) {t : A → M C} → ((x : A) → Same (k x >> l) (t x)) → Same ((m >>= k) >> l) (m >>= t)
   unfolding ◌>>=◌ ◌>>◌
-  bind-next k l e = record { is = λ w. on-on (m w) k (λ _. l) (λ x. (e x).is) }
+  bind_next k l e = record { is = λ w. on_on (m w) k (λ _. l) (λ x. (e x).is) }
 
-  pub bind-bind : (k : A → M B) (l : B → M C) {t : A → M C} → ((x : A) → Same (k x >>= l) (t x)) → Same ((m >>= k) >>= l) (m >>= t)
+  pub bind_bind : (k : A → M B) (l : B → M C) {t : A → M C} → ((x : A) → Same (k x >>= l) (t x)) → Same ((m >>= k) >>= l) (m >>= t)
   unfolding ◌>>=◌
-  bind-bind k l e = record { is = λ w. on-on (m w) k l (λ x. (e x).is) }
+  bind_bind k l e = record { is = λ w. on_on (m w) k l (λ x. (e x).is) }
 
-  pub next-next : (k : M B) (l : M C) {t : M C} → Same (k >> l) t → Same ((m >> k) >> l) (m >> t)
+  pub next_next : (k : M B) (l : M C) {t : M C} → Same (k >> l) t → Same ((m >> k) >> l) (m >> t)
   unfolding ◌>>◌
-  next-next k l e = record { is = λ w. on-on (m w) (λ _. k) (λ _. l) (λ x. e.is) }
+  next_next k l e = record { is = λ w. on_on (m w) (λ _. k) (λ _. l) (λ x. e.is) }
 
-  pub next-bind : (k : M B) (l : B → M C) {t : M C} → Same (k >>= l) t → Same ((m >> k) >>= l) (m >> t)
+  pub next_bind : (k : M B) (l : B → M C) {t : M C} → Same (k >>= l) t → Same ((m >> k) >>= l) (m >> t)
   unfolding ◌>>=◌ ◌>>◌
-  next-bind k l e = record { is = λ w. on-on (m w) (λ _. k) l (λ x. e.is) }
+  next_bind k l e = record { is = λ w. on_on (m w) (λ _. k) l (λ x. e.is) }
 
 pub given : {A B : Type 0} (x : A) (k : A → M B) → Same (return x >>= k) (k x)
 unfolding return ◌>>=◌

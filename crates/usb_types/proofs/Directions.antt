@@ -11,6 +11,6 @@ unfolding direction_bit
 bit true recipient h = simp (le-leb 128 (1 * 128 + recipient) (omega arith))
 bit false recipient h = simp (lt-leb 128 (0 * 128 + recipient) (omega arith))
 
-pub same-direction : (recipient request : ℕ) → recipient < 128 → direction_bit (direction_of request * 128 + recipient) ≡ direction_of request
+pub same_direction : (recipient request : ℕ) → recipient < 128 → direction_bit (direction_of request * 128 + recipient) ≡ direction_of request
 unfolding direction_of
-same-direction recipient request h = rw bit
+same_direction recipient request h = rw bit

@@ -6,11 +6,11 @@ use Rattle.usb_types.specs.declared.request.UsbDeviceRequest.{UsbDeviceRequest}
 use Rattle.usb_types.specs.declared.pipe.UsbPipeAddress.{UsbPipeAddress}
 use Rattle.usb_types.specs.Actions.{request_action, wait_action, frame_interval_action}
 
-pub request-length : (pipe : UsbPipeAddress) (q : UsbDeviceRequest) → length (request_action pipe q) ≡ 16
-request-length pipe q = refl
+pub request_length : (pipe : UsbPipeAddress) (q : UsbDeviceRequest) → length (request_action pipe q) ≡ 16
+request_length pipe q = refl
 
-pub wait-length : (microseconds : ℕ) → length (wait_action microseconds) ≡ 16
-wait-length microseconds = refl
+pub wait_length : (microseconds : ℕ) → length (wait_action microseconds) ≡ 16
+wait_length microseconds = refl
 
-pub frame-length : length frame_interval_action ≡ 16
-frame-length = refl
+pub frame_length : length frame_interval_action ≡ 16
+frame_length = refl

@@ -12,20 +12,20 @@ use Rattle.usb_types.specs.Outcomes.{submit_results, result_of}
 use Rattle.usb_types.specs.declared.types.Answer.TheVariants.{Ok}
 use Rattle.usb_types.proofs.Table.{rule}
 
-same-eq : (a b : ℤ) → T (same_int a b) → a ≡ b
+same_eq : (a b : ℤ) → T (same_int a b) → a ≡ b
 unfolding same_int
-same-eq (pos m) (pos n) t = ap pos (eqb→eq m n t)
-same-eq (negsuc m) (negsuc n) t = ap negsuc (eqb→eq m n t)
-same-eq (pos m) (negsuc n) t = absurd t
-same-eq (negsuc m) (pos n) t = absurd t
+same_eq (pos m) (pos n) t = ap pos (eqb→eq m n t)
+same_eq (negsuc m) (negsuc n) t = ap negsuc (eqb→eq m n t)
+same_eq (pos m) (negsuc n) t = absurd t
+same_eq (negsuc m) (pos n) t = absurd t
 
 -- "0 to 9 for ResultCode 0 to −9"
-pub submit-number : (k : ℕ) → k < 10 → answer_number (get_or submit_results k Ok) ≡ minus k
+pub submit_number : (k : ℕ) → k < 10 → answer_number (get_or submit_results k Ok) ≡ minus k
 unfolding same_int submit_results
-submit-number k h =
-    same-eq (answer_number (get_or submit_results k Ok)) (minus k) (rule (λ n a. same_int (answer_number a) (minus n)) submit_results tt k h Ok)
+submit_number k h =
+    same_eq (answer_number (get_or submit_results k Ok)) (minus k) (rule (λ n a. same_int (answer_number a) (minus n)) submit_results tt k h Ok)
 
 -- "a submit code other than 0 is the result", whatever the error
-pub result-number : (k error : ℕ) → k ≢ 0 → k < 10 → answer_number (result_of k error) ≡ minus k
+pub result_number : (k error : ℕ) → k ≢ 0 → k < 10 → answer_number (result_of k error) ≡ minus k
 unfolding result_of
-result-number k error ne h = rw (ne_eqb k 0 ne) (submit-number k h)
+result_number k error ne h = rw (ne_eqb k 0 ne) (submit_number k h)

@@ -12,7 +12,7 @@ use Rattle.usb_types.specs.declared.types.ErrorCode.TheVariants.{GarbledConfigur
 use Rattle.usb_types.specs.declared.types.Answer.TheVariants.{Ok, Error}
 use Rattle.usb_model.specs.Programs.{on, Program, ◌>>=◌, skip, throw, when}
 use Rattle.usb_model.specs.Walk.{Walk, max_interfaces, max_endpoints, record_length, begin, descriptor, walk_from, walk_all, walked, walk}
-use Rattle.usb_model.proofs.Record.{walk-fuel, walk-enough}
+use Rattle.usb_model.proofs.Record.{walk_fuel, walk_enough}
 use Rattle.usb_walk.specs.declared.Last.{Last}
 use Rattle.usb_walk.specs.declared.Next.{Next}
 use Rattle.usb_walk.specs.declared.Next.TheVariants.{On, End, Refused}
@@ -22,17 +22,17 @@ pub record Walking (descriptors before kept : List ℕ) (offset : ℕ) (last : L
   pub is : walked (walk_from (suc (length descriptors)) (drop offset descriptors) (state kept last)) ≡ walk descriptors before
   pub ready : Ready kept last
 
-pub starts-empty : (d kept : List ℕ) → length d ≡ 0 → ends_with (Error GarbledConfiguration) kept ≡ walk d kept
+pub starts_empty : (d kept : List ℕ) → length d ≡ 0 → ends_with (Error GarbledConfiguration) kept ≡ walk d kept
 unfolding walk walk_all throw
-starts-empty [] kept e = refl
-starts-empty (x ∷ d) kept e = absurd (omega arith)
+starts_empty [] kept e = refl
+starts_empty (x ∷ d) kept e = absurd (omega arith)
 
 pub starts : (d kept : List ℕ) (offset : ℕ) → (length d ≡ 0 → ⊥) → offset ≡ get_or d 0 0 → length kept ≡ record_length
     → Walking d kept kept offset (record { interface = max_interfaces; endpoint = max_endpoints; is_alternate = false })
 unfolding walk
 starts [] kept offset n o l = absurd (n refl)
 starts (x ∷ d) kept offset n o l = record {
-  is = rw o (ap walked (sym (walk-enough (suc (length (x ∷ d))) x d (omega arith) (begin kept))));
+  is = rw o (ap walked (sym (walk_enough (suc (length (x ∷ d))) x d (omega arith) (begin kept))));
   ready = record { whole = l; interface = omega arith };
 }
 
@@ -84,5 +84,5 @@ module _ (d before kept : List ℕ) (offset : ℕ) (last : Last) (w : Walking d 
     unfolding when
     goes_on size s =
         let long = length-drop (offset + size) d in
-        let same = walk-fuel (suc (length d)) (length d) (drop (offset + size) d) (omega arith) (omega arith) (state after l) in
+        let same = walk_fuel (suc (length d)) (length d) (drop (offset + size) d) (omega arith) (omega arith) (state after l) in
         record { is = ap walked same ∙ rw (e, drop-drop, ← s) at turn; ready = (rw e at g.moves).0 }

@@ -26,19 +26,19 @@ appends_none (Some a) name = sym (append-nil a)
 
 -- ---- the lines of what differs
 
-differing-append : (name ns ms : List ℕ) → differing name (ns ++ ms) ≡ differing name ns ++ differing name ms
+differing_append : (name ns ms : List ℕ) → differing name (ns ++ ms) ≡ differing name ns ++ differing name ms
 unfolding differing
-differing-append name [] ms = refl
-differing-append name (n ∷ ns) ms =
-    ap (λ l. name ++ decimal n ++ codes " differs\n" ++ l) (differing-append name ns ms)
+differing_append name [] ms = refl
+differing_append name (n ∷ ns) ms =
+    ap (λ l. name ++ decimal n ++ codes " differs\n" ++ l) (differing_append name ns ms)
     ∙ sym (append_assoc (name ++ decimal n ++ codes " differs\n") (differing name ns) (differing name ms))
 
-differing-one : (name : List ℕ) (n : ℕ) → differing name (n ∷ []) ≡ name ++ decimal n ++ codes " differs\n"
+differing_one : (name : List ℕ) (n : ℕ) → differing name (n ∷ []) ≡ name ++ decimal n ++ codes " differs\n"
 unfolding differing
-differing-one name n = append-nil (name ++ decimal n ++ codes " differs\n")
+differing_one name n = append-nil (name ++ decimal n ++ codes " differs\n")
 
-pub differing-more : (name ns : List ℕ) (i : ℕ) → i < length ns
+pub differing_more : (name ns : List ℕ) (i : ℕ) → i < length ns
     → differing name (take (i + 1) ns) ≡ differing name (take i ns) ++ (name ++ decimal (get_or ns i 0) ++ codes " differs\n")
-differing-more name ns i h =
-    ap (differing name) (take_more ns i 0 h) ∙ differing-append name (take i ns) (get_or ns i 0 ∷ [])
-    ∙ ap (λ l. differing name (take i ns) ++ l) (differing-one name (get_or ns i 0))
+differing_more name ns i h =
+    ap (differing name) (take_more ns i 0 h) ∙ differing_append name (take i ns) (get_or ns i 0 ∷ [])
+    ∙ ap (λ l. differing name (take i ns) ++ l) (differing_one name (get_or ns i 0))

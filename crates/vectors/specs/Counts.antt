@@ -6,9 +6,9 @@ use Rattle.replays.specs.declared.file.Next.TheVariants.{Replayed}
 
 -- the counts and the numbers stay as many as they were
 pub record SameLengths (seen agreed differ seen' agreed' differ' : List ℕ) : Type 0 where
-  pub of-seen : length seen' ≡ length seen
-  pub of-agreed : length agreed' ≡ length agreed
-  pub of-differ : length differ' ≡ length differ
+  pub of_seen : length seen' ≡ length seen
+  pub of_agreed : length agreed' ≡ length agreed
+  pub of_differ : length differ' ≡ length differ
 
 -- the counts after n records of a file, whatever these are, and how many numbers are noted: each record is tallied by its number, from 0
 pub data Counted (walks : Bool) (seen agreed differ : List ℕ) : ℕ → List ℕ → List ℕ → List ℕ → ℕ → Type 0 where

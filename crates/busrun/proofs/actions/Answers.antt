@@ -1,6 +1,6 @@
 -- `busrun::actions` meets its contract. The loop's invariant: what is left to count and what is counted are the whole. Assumes nothing.
 use native.Mathlib.Omega.{arith}
-use Rattle.busrun.proofs.Logs.{none_left, one_more, all-counted}
+use Rattle.busrun.proofs.Logs.{none_left, one_more, all_counted}
 use Rattle.busrun.proofs.actions.Goals as goal
 
 pub loop-n-init : goal.loop-n-init
@@ -30,5 +30,5 @@ loop-n-preserved c =
 
 pub returns : goal.returns
 returns c =
-    let all = all-counted c.args.log.now c.loop-n.n c.loop-n-test.false in
+    let all = all_counted c.args.log.now c.loop-n.n c.loop-n-test.false in
     (omega (arith, all, c.loop-n.invariant.0), c.loop-n.invariant.1)

@@ -1,38 +1,38 @@
 -- `lidrumak::lidrumak_child_reset` meets its contract. Assumes nothing.
 use mathlib.Core.Path.{refl}
 use Rattle.usb_model.specs.Entry.{child_reset}
-use Rattle.usb_model.proofs.Accepted.{used-inside, hub-accepted}
+use Rattle.usb_model.proofs.Accepted.{used_inside, hub_accepted}
 use Rattle.usb_entry.specs.Replies.{lent}
-use Rattle.lidrumak.proofs.Entries.{refused-call, accepted-call, accepts, bytes_of, first-world, started}
+use Rattle.lidrumak.proofs.Entries.{refused_call, accepted_call, accepts, bytes_of, first_world, started}
 use Rattle.lidrumak.proofs.lidrumak_child_reset.Goals as goal
 
 pub returns-in-Refused : goal.returns-in-Refused
 unfolding child_reset
 returns-in-Refused c =
     let judged = c.child_verdict-verdict.ensures c.args.new.now c.args.outcomes.now c.args.log.now refl in
-    refused-call _ _ _ judged c.in-Refused.is _ c.refuse.ensures
+    refused_call _ _ _ judged c.in-Refused.is _ c.refuse.ensures
 
 pub copy_store-requires : goal.copy_store-requires
 copy_store-requires c =
     let judged = c.child_verdict-verdict.ensures c.args.new.now c.args.outcomes.now c.args.log.now refl in
-    ((hub-accepted _ _ _ (accepts _ judged c.in_default.is)).lengths, (hub-accepted _ _ _ (accepts _ judged c.in_default.is)).is-sound)
+    ((hub_accepted _ _ _ (accepts _ judged c.in_default.is)).lengths, (hub_accepted _ _ _ (accepts _ judged c.in_default.is)).is_sound)
 
 pub hub_child_reset-requires : goal.hub_child_reset-requires
 hub_child_reset-requires c =
     let judged = c.child_verdict-verdict.ensures c.args.new.now c.args.outcomes.now c.args.log.now refl in
-    let p = (hub-accepted _ _ _ (accepts _ judged c.in_default.is)) in
+    let p = (hub_accepted _ _ _ (accepts _ judged c.in_default.is)) in
     let s = started _ (record {
       old = bytes_of c.shared_slice_known-1.given;
       new = bytes_of c.slice_known-1.given;
       outcomes = bytes_of c.shared_slice_known-2-1.given;
       log = bytes_of c.slice_known-2-1.given;
-    }) p.is-sound (first-world (lent c.args.old.now c.args.new.now c.args.outcomes.now c.args.log.now) c.copy_store.ensures c.begin.ensures) in
-    (s.fit, p.inside, used-inside (lent c.args.old.now c.args.new.now c.args.outcomes.now c.args.log.now) _ p.good, s.good.most _)
+    }) p.is_sound (first_world (lent c.args.old.now c.args.new.now c.args.outcomes.now c.args.log.now) c.copy_store.ensures c.begin.ensures) in
+    (s.fit, p.inside, used_inside (lent c.args.old.now c.args.new.now c.args.outcomes.now c.args.log.now) _ p.good, s.good.most _)
 
 pub returns : goal.returns
 unfolding child_reset
 returns c =
     let judged = c.child_verdict-verdict.ensures c.args.new.now c.args.outcomes.now c.args.log.now refl in
     let run = c.hub_child_reset.ensures in
-    accepted-call _ _ _ judged c.in_default.is
-    (first-world (lent c.args.old.now c.args.new.now c.args.outcomes.now c.args.log.now) c.copy_store.ensures c.begin.ensures) _ run _ c.report.ensures
+    accepted_call _ _ _ judged c.in_default.is
+    (first_world (lent c.args.old.now c.args.new.now c.args.outcomes.now c.args.log.now) c.copy_store.ensures c.begin.ensures) _ run _ c.report.ensures

@@ -3,7 +3,7 @@ use borrow.Author.Rules.{rules}
 use mathlib.Core.Path.{◌≡◌, ◌∙◌}
 use mir.Syntax.{w32}
 use mir.Val.{to_z, of_z}
-use Rattle.lidrumak.proofs.Entries.{too_long, wrong-record, walked_all}
+use Rattle.lidrumak.proofs.Entries.{too_long, wrong_record, walked_all}
 use Rattle.lidrumak.proofs.lidrumak_configuration_walk.Goals as goal
 
 pub returns-then-descriptors-gt-MAX_DESCRIPTORS : goal.returns-then-descriptors-gt-MAX_DESCRIPTORS
@@ -14,7 +14,7 @@ returns-then-descriptors-gt-MAX_DESCRIPTORS c =
 pub returns-then-record-ne-RECORD_LEN : goal.returns-then-record-ne-RECORD_LEN
 returns-then-record-ne-RECORD_LEN c =
     let n : to_z w32 (of_z w32 c.refusal_number-refused.result) ≡ c.refusal_number-refused.result = search rules in
-    wrong-record _ _ _ c.if-descriptors-gt-MAX_DESCRIPTORS.false (n ∙ c.refusal_number-refused.ensures) c.if-record-ne-RECORD_LEN.true
+    wrong_record _ _ _ c.if-descriptors-gt-MAX_DESCRIPTORS.false (n ∙ c.refusal_number-refused.ensures) c.if-record-ne-RECORD_LEN.true
 
 pub returns : goal.returns
 returns c =

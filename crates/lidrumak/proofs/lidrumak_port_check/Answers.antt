@@ -1,41 +1,41 @@
 -- `lidrumak::lidrumak_port_check` meets its contract. Assumes nothing.
 use mathlib.Core.Path.{refl}
-use Rattle.usb_device.proofs.Free.{free-most}
+use Rattle.usb_device.proofs.Free.{free_most}
 use Rattle.usb_model.specs.Entry.{port_check}
-use Rattle.usb_model.proofs.Accepted.{port-inside, hub-accepted}
+use Rattle.usb_model.proofs.Accepted.{port_inside, hub_accepted}
 use Rattle.usb_entry.specs.Replies.{lent}
-use Rattle.lidrumak.proofs.Entries.{refused-call, accepted-call, accepts, bytes_of, first-world, on-bus}
+use Rattle.lidrumak.proofs.Entries.{refused_call, accepted_call, accepts, bytes_of, first_world, on_bus}
 use Rattle.lidrumak.proofs.lidrumak_port_check.Goals as goal
 
 pub returns-in-Refused : goal.returns-in-Refused
 unfolding port_check
 returns-in-Refused c =
     let judged = c.port_verdict-verdict.ensures c.args.new.now c.args.outcomes.now c.args.log.now refl in
-    refused-call _ _ _ judged c.in-Refused.is _ c.refuse.ensures
+    refused_call _ _ _ judged c.in-Refused.is _ c.refuse.ensures
 
 pub copy_store-requires : goal.copy_store-requires
 copy_store-requires c =
     let judged = c.port_verdict-verdict.ensures c.args.new.now c.args.outcomes.now c.args.log.now refl in
-    ((hub-accepted _ _ _ (accepts _ judged c.in_default.is)).lengths, (hub-accepted _ _ _ (accepts _ judged c.in_default.is)).is-sound)
+    ((hub_accepted _ _ _ (accepts _ judged c.in_default.is)).lengths, (hub_accepted _ _ _ (accepts _ judged c.in_default.is)).is_sound)
 
 pub hub_check_connection-requires : goal.hub_check_connection-requires
 hub_check_connection-requires c =
     let judged = c.port_verdict-verdict.ensures c.args.new.now c.args.outcomes.now c.args.log.now refl in
-    let p = (hub-accepted _ _ _ (accepts _ judged c.in_default.is)) in (
-      on-bus _ (record {
+    let p = (hub_accepted _ _ _ (accepts _ judged c.in_default.is)) in (
+      on_bus _ (record {
         old = bytes_of c.shared_slice_known-1.given;
         new = bytes_of c.slice_known-1.given;
         outcomes = bytes_of c.shared_slice_known-2-1.given;
         log = bytes_of c.slice_known-2-1.given;
-      }) p.is-sound (first-world (lent c.args.old.now c.args.new.now c.args.outcomes.now c.args.log.now) c.copy_store.ensures c.begin.ensures) _
+      }) p.is_sound (first_world (lent c.args.old.now c.args.new.now c.args.outcomes.now c.args.log.now) c.copy_store.ensures c.begin.ensures) _
           p.inside p.first,
-      port-inside _ p.good,
+      port_inside _ p.good,
     )
 
 pub returns : goal.returns
 unfolding port_check
 returns c =
     let judged = c.port_verdict-verdict.ensures c.args.new.now c.args.outcomes.now c.args.log.now refl in
-    let run = c.hub_check_connection.ensures 32 (free-most _) in
-    accepted-call _ _ _ judged c.in_default.is
-    (first-world (lent c.args.old.now c.args.new.now c.args.outcomes.now c.args.log.now) c.copy_store.ensures c.begin.ensures) _ run _ c.report.ensures
+    let run = c.hub_check_connection.ensures 32 (free_most _) in
+    accepted_call _ _ _ judged c.in_default.is
+    (first_world (lent c.args.old.now c.args.new.now c.args.outcomes.now c.args.log.now) c.copy_store.ensures c.begin.ensures) _ run _ c.report.ensures

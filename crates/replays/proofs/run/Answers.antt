@@ -1,6 +1,6 @@
 -- `replays::run` meets its contract. Assumes nothing.
 use mathlib.Core.Path.{◌∙◌}
-use Rattle.replays.proofs.Agreement.{replays-by}
+use Rattle.replays.proofs.Agreement.{replays_by}
 use Rattle.replays.proofs.run.Goals as goal
 
 pub begin-requires : goal.begin-requires
@@ -15,5 +15,5 @@ carry-requires c = c.begin.auto.store ∙ c.requires.ready.whole
 pub returns : goal.returns
 returns c =
     let pre = c.requires.len in
-    replays-by _ _ _ _ _ _ _ _ _ _ _ _ _ _ c.begin.ensures c.old_store.ensures pre.1 pre.2
+    replays_by _ _ _ _ _ _ _ _ _ _ _ _ _ _ c.begin.ensures c.old_store.ensures pre.1 pre.2
     c.call-reply.ensures c.carry.ensures c.agrees.ensures

@@ -3,7 +3,7 @@ use borrow.Author.Tests.{ne_eqb}
 use mathlib.Core.Path.{sym, ◌∙◌}
 use Rattle.usb_model.specs.Features.{bit}
 use Rattle.usb_check.specs.Parts.{is_changed}
-use Rattle.usb_check.proofs.Checks.{root-changed}
+use Rattle.usb_check.proofs.Checks.{root_changed}
 use Rattle.usb_check.proofs.changed.Goals as goal
 
 pub returns-then-has : goal.returns-then-has
@@ -18,4 +18,4 @@ pub returns : goal.returns
 unfolding bit
 returns c =
     let same = sym c.has.ensures ∙ c.if-has.false in
-    root-changed _ _ _ c.if-number-ne1.false same _ _ c.has-2.ensures c.has-3.ensures
+    root_changed _ _ _ c.if-number-ne1.false same _ _ c.has-2.ensures c.has-3.ensures

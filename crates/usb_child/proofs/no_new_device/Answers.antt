@@ -1,11 +1,11 @@
 -- `usb_child::no_new_device` meets its contract. Assumes nothing.
 use mathlib.Core.Path.{sym, ◌∙◌}
 use Rattle.usb_model.specs.Features.{bit}
-use Rattle.usb_child.proofs.Births.{has-child, connected, disconnected}
+use Rattle.usb_child.proofs.Births.{has_child, connected, disconnected}
 use Rattle.usb_child.proofs.no_new_device.Goals as goal
 
 pub returns-then-child_of-ne0 : goal.returns-then-child_of-ne0
-returns-then-child_of-ne0 c = has-child _ _ (rw c.child_of.ensures at c.if-child_of-ne0.true)
+returns-then-child_of-ne0 c = has_child _ _ (rw c.child_of.ensures at c.if-child_of-ne0.true)
 
 pub returns-then-has : goal.returns-then-has
 unfolding bit

@@ -2,14 +2,14 @@
 use Prim.Native.Nat.{◌+◌, ◌≤◌}
 use native.Mathlib.Omega.{arith}
 use lib.ListN.{length}
-use Rattle.usb_transfer.proofs.Steps.{not-ok}
-use Rattle.usb_deliver.proofs.Deliveries.{part-ended}
+use Rattle.usb_transfer.proofs.Steps.{not_ok}
+use Rattle.usb_deliver.proofs.Deliveries.{part_ended}
 use Rattle.usb_deliver.proofs.part.Goals as goal
 
 pub returns-in_default : goal.returns-in_default
 returns-in_default c =
     let args = c.args in
-    part-ended args.transfer.step.answer (not-ok _ c.in_default.not-Ok) args.outcomes.now args.at.taken args.transfer.len
+    part_ended args.transfer.step.answer (not_ok _ c.in_default.not-Ok) args.outcomes.now args.at.taken args.transfer.len
 
 pub delivered-requires : goal.delivered-requires
 delivered-requires c =

@@ -1,6 +1,6 @@
 -- `usb_enumerate::usb_allocate_device` meets its contract. Assumes nothing.
 use borrow.Author.Rules.{rules}
-use Rattle.usb_enumerate.proofs.Ways.{allocated, bus-full}
+use Rattle.usb_enumerate.proofs.Ways.{allocated, bus_full}
 use Rattle.usb_enumerate.proofs.usb_allocate_device.Goals as goal
 
 pub returns-then-place-lt-PLACES : goal.returns-then-place-lt-PLACES
@@ -11,4 +11,4 @@ returns-then-place-lt-PLACES c =
 pub returns-else-place-lt-PLACES : goal.returns-else-place-lt-PLACES
 returns-else-place-lt-PLACES c =
     let first = c.first_unused-place in
-    ((λ l o at f. bus-full _ _ _ _ _ first.ensures.0 f (search rules)), first.ensures.1)
+    ((λ l o at f. bus_full _ _ _ _ _ first.ensures.0 f (search rules)), first.ensures.1)

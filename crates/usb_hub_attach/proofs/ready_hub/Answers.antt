@@ -1,12 +1,12 @@
 -- `usb_hub_attach::ready_hub` meets its contract. Assumes nothing.
 use mathlib.Core.Path.{sym, ◌∙◌}
-use Rattle.usb_transfer.proofs.Steps.{not-ok, next, next-ended}
+use Rattle.usb_transfer.proofs.Steps.{not_ok, next, next_ended}
 use Rattle.usb_hub_attach.proofs.Hubs.{fits, unfit}
 use Rattle.usb_hub_attach.proofs.ready_hub.Goals as goal
 
 pub returns-in_default : goal.returns-in_default
 returns-in_default c = fits _ (sym c.hub_endpoint.ensures ∙ c.if-hub_endpoint.true)
-    (next-ended _ _ c.describe_hub-described.ensures (not-ok _ c.in_default.not-Ok))
+    (next_ended _ _ c.describe_hub-described.ensures (not_ok _ c.in_default.not-Ok))
 
 pub returns-then-hub_endpoint : goal.returns-then-hub_endpoint
 returns-then-hub_endpoint c = fits _ (sym c.hub_endpoint.ensures ∙ c.if-hub_endpoint.true)

@@ -2,13 +2,13 @@
 use Prim.Native.Nat.{◌≤◌}
 use native.Mathlib.Omega.{arith}
 use lib.ListN.{length}
-use Rattle.usb_transfer.proofs.Steps.{not-ok, bound, bound-ended, got}
+use Rattle.usb_transfer.proofs.Steps.{not_ok, bound, bound_ended, got}
 use Rattle.usb_hub_descriptor.specs.Parts.{after_header}
 use Rattle.usb_hub_descriptor.proofs.Blanks.{blanked}
 use Rattle.usb_hub_descriptor.proofs.after_header.Goals as goal
 
 pub returns-in_default : goal.returns-in_default
-returns-in_default c = λ m w d. bound-ended _ _ d (not-ok _ c.in_default.not-Ok)
+returns-in_default c = λ m w d. bound_ended _ _ d (not_ok _ c.in_default.not-Ok)
 
 pub bounds-header-0 : goal.bounds-header-0
 bounds-header-0 c =

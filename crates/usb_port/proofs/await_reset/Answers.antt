@@ -2,8 +2,8 @@
 use mathlib.Core.Path.{refl, sym, ◌∙◌}
 use native.Mathlib.Omega.{arith}
 use Rattle.usb_model.specs.Features.{bit}
-use Rattle.usb_transfer.proofs.Steps.{not-ok, as-ok, otherwise, going, ends_with}
-use Rattle.usb_port.proofs.Awaits.{reset-ended, reset-seen, reset-goes, reset-none}
+use Rattle.usb_transfer.proofs.Steps.{not_ok, as_ok, otherwise, going, ends_with}
+use Rattle.usb_port.proofs.Awaits.{reset_ended, reset_seen, reset_goes, reset_none}
 use Rattle.usb_port.proofs.await_reset.Goals as goal
 
 pub loop-left-init : goal.loop-left-init
@@ -14,8 +14,8 @@ delayed_status-read-requires c = (c.loop-left.invariant.fit, c.requires.1, c.req
 
 pub returns-in_default : goal.returns-in_default
 returns-in_default c =
-    let ended = not-ok _ c.in_default.not-Ok in
-    let turns = reset-ended _ _ _ c.loop-left-test.true c.delayed_status-read.ensures ended in
+    let ended = not_ok _ c.in_default.not-Ok in
+    let turns = reset_ended _ _ _ c.loop-left-test.true c.delayed_status-read.ensures ended in
     record { ends = ends_with c.loop-left.invariant turns; so = otherwise (Unit {0}) _ ended refl }
 
 pub port_status-requires : goal.port_status-requires
@@ -26,17 +26,17 @@ unfolding bit
 returns-then-has c =
     let ok = c.in-Ok.is in
     let test = rw c.port_status.ensures at (sym c.has.ensures ∙ c.if-has.true) in
-    let turns = reset-seen _ _ _ c.loop-left-test.true (as-ok ok c.delayed_status-read.ensures) test in
+    let turns = reset_seen _ _ _ c.loop-left-test.true (as_ok ok c.delayed_status-read.ensures) test in
     rw ok (record { ends = ends_with c.loop-left.invariant turns; so = tt })
 
 pub loop-left-preserved : goal.loop-left-preserved
 unfolding bit
 loop-left-preserved c =
-    let done = as-ok c.in-Ok.is c.delayed_status-read.ensures in
+    let done = as_ok c.in-Ok.is c.delayed_status-read.ensures in
     let test = rw c.port_status.ensures at (sym c.has.ensures ∙ c.if-has.false) in
-    reset-goes _ _ _ c.loop-left-test.true c.loop-left.invariant done test c.delayed_status-read.auto.store c.delayed_status-read.auto.log
+    reset_goes _ _ _ c.loop-left-test.true c.loop-left.invariant done test c.delayed_status-read.auto.store c.delayed_status-read.auto.log
 
 pub returns : goal.returns
 returns c =
     let inv = c.loop-left.invariant in
-    record { ends = ends_with inv (reset-none _ _ _ (omega (arith, c.loop-left-test.false)) inv.fit); so = tt }
+    record { ends = ends_with inv (reset_none _ _ _ (omega (arith, c.loop-left-test.false)) inv.fit); so = tt }

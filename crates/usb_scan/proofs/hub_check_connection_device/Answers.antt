@@ -1,7 +1,7 @@
 -- `usb_scan::hub_check_connection_device` meets its contract. Assumes nothing.
 -- the function's entry, from the call of port_of_child
 use Rattle.usb_model.specs.Hub.{hub_check_connection_device}
-use Rattle.usb_transfer.proofs.Steps.{NotOk, bound, bound-ended}
+use Rattle.usb_transfer.proofs.Steps.{NotOk, bound, bound_ended}
 use Rattle.usb_scan.specs.Parts.{check_child}
 use Rattle.usb_scan.proofs.hub_check_connection_device.Goals as goal
 
@@ -17,7 +17,7 @@ check_child-requires c =
 
 pub returns-in-Nowhere : goal.returns-in-Nowhere
 unfolding hub_check_connection_device NotOk
-returns-in-Nowhere c n h = bound-ended _ _ (rw c.in-Nowhere.is at (c.port_of_child-found.ensures.ends _ _ _ c.requires.0.fit)) tt
+returns-in-Nowhere c n h = bound_ended _ _ (rw c.in-Nowhere.is at (c.port_of_child-found.ensures.ends _ _ _ c.requires.0.fit)) tt
 
 pub returns-in-At : goal.returns-in-At
 unfolding hub_check_connection_device check_child

@@ -3,7 +3,7 @@ use native.Mathlib.Omega.{arith}
 use Prim.Native.Nat.{◌*◌}
 use lib.ListN.{length-take}
 use Rattle.usb_sound.proofs.Copies.{copied}
-use Rattle.usb_sound.proofs.Decides.{zeros-past}
+use Rattle.usb_sound.proofs.Decides.{zeros_past}
 use Rattle.usb_sound.proofs.copy_store.Goals as goal
 
 pub slice_bounds-memory_copy-end : goal.slice_bounds-memory_copy-end
@@ -20,5 +20,5 @@ pub returns : goal.returns
 returns c =
     let first = c.first_unused-used in
     copied c.args.new.now c.args.old.now (first.result * 1152) c.requires.0
-    (omega (arith, first.ensures.1, c.requires.1.whole)) (rw first.ensures.0 (zeros-past _ c.requires.1))
+    (omega (arith, first.ensures.1, c.requires.1.whole)) (rw first.ensures.0 (zeros_past _ c.requires.1))
     c.memory_copy.ensures c.fill_zero.ensures

@@ -5,18 +5,18 @@ use mathlib.Core.Path.{◌≡◌, refl, sym}
 use native.Mathlib.Numerals.{add-one}
 use lib.ListN.{length, length-set}
 use lib.Seq.{take-length}
-use Rattle.usb_store.proofs.Writes.{write-nil, write-more}
+use Rattle.usb_store.proofs.Writes.{write_nil, write_more}
 use Rattle.usb_store.proofs.memory_copy.Goals as goal
 
 pub loop-j-init : goal.loop-j-init
-loop-j-init c = (search rules, sym (write-nil c.args.dst.now c.args.start), refl)
+loop-j-init c = (search rules, sym (write_nil c.args.dst.now c.args.start), refl)
 
 pub loop-j-preserved : goal.loop-j-preserved
 loop-j-preserved c =
     let head = c.loop-j in
     let args = c.args in (
       search rules,
-      rw (head.invariant.1, add-one) (write-more args.dst.now args.start args.src.now head.j (omega arith)),
+      rw (head.invariant.1, add-one) (write_more args.dst.now args.start args.src.now head.j (omega arith)),
       simp (length-set, head.invariant.2),
     )
 

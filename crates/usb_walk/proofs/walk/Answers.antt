@@ -1,11 +1,11 @@
 -- `usb_walk::walk` meets its contract. The loop's invariant: what is left to walk from here gives what the whole walk gives.
 -- Assumes nothing.
 use native.Mathlib.Omega.{arith}
-use Rattle.usb_walk.proofs.Turns.{starts-empty, starts, ends, ended, refused, moves, goes_on}
+use Rattle.usb_walk.proofs.Turns.{starts_empty, starts, ends, ended, refused, moves, goes_on}
 use Rattle.usb_walk.proofs.walk.Goals as goal
 
 pub returns-then-descriptors-eq0 : goal.returns-then-descriptors-eq0
-returns-then-descriptors-eq0 c = starts-empty _ _ c.if-descriptors-eq0.true
+returns-then-descriptors-eq0 c = starts_empty _ _ c.if-descriptors-eq0.true
 
 pub loop-offset-init : goal.loop-offset-init
 loop-offset-init c = starts _ _ _ c.if-descriptors-eq0.false c.wide-offset.ensures.0 c.requires

@@ -1,5 +1,5 @@
 use Rattle.std.proofs.Common.{arith}
-use Rattle.vectors.proofs.Written.{appends_more, appends_none, differing-more}
+use Rattle.vectors.proofs.Written.{appends_more, appends_none, differing_more}
 use Rattle.vectors.proofs.write_differing.Goals as goal
 
 pub loop-i-init : goal.loop-i-init
@@ -10,6 +10,6 @@ loop-i-preserved g c = record {
   most = omega arith;
   within = omega arith;
   written =
-      rw (differing-more c.args.name.now c.args.numbers.now c.loop-i.i c.loop-i-test.true)
+      rw (differing_more c.args.name.now c.args.numbers.now c.loop-i.i c.loop-i-test.true)
       (appends_more _ _ _ _ _ c.loop-i.invariant.written c.in_ok-write_number.ensures);
 }

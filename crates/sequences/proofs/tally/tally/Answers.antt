@@ -4,10 +4,10 @@ use Rattle.sequences.proofs.tally.tally.Goals as goal
 pub returns-then-agrees : goal.returns-then-agrees
 returns-then-agrees c =
     let ok = c.if-agrees.true in
-    record { seen_after = c.count.ensures; tallied = record { counts = simp ok c.count-then-agrees.ensures; notes = simp ok; number-noted = simp ok } }
+    record { seen_after = c.count.ensures; tallied = record { counts = simp ok c.count-then-agrees.ensures; notes = simp ok; number_noted = simp ok } }
 
 pub returns : goal.returns
 returns c =
     let differs = c.if-agrees.false in
     let noted = c.note.ensures in
-    record { seen_after = c.count.ensures; tallied = record { counts = simp differs; notes = simp differs noted.0; number-noted = simp differs noted.1 } }
+    record { seen_after = c.count.ensures; tallied = record { counts = simp differs; notes = simp differs noted.0; number_noted = simp differs noted.1 } }

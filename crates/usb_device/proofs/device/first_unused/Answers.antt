@@ -3,7 +3,7 @@
 use borrow.Author.Rules.{rules}
 use mathlib.Core.Path.{refl, sym, ◌∙◌}
 use native.Mathlib.Omega.{arith}
-use Rattle.usb_device.proofs.Turns.{unused_found, unused-next, unused-end}
+use Rattle.usb_device.proofs.Turns.{unused_found, unused_next, unused_end}
 use Rattle.usb_device.proofs.device.first_unused.Goals as goal
 
 pub loop-place-init : goal.loop-place-init
@@ -15,7 +15,7 @@ returns-then-byte_at-eq0 c =
 
 pub loop-place-preserved : goal.loop-place-preserved
 loop-place-preserved c =
-    (search rules, sym (unused-next _ _ c.loop-place-test.true (λ z. c.if-byte_at-eq0.false (c.byte_at.ensures ∙ z))) ∙ c.loop-place.invariant.1)
+    (search rules, sym (unused_next _ _ c.loop-place-test.true (λ z. c.if-byte_at-eq0.false (c.byte_at.ensures ∙ z))) ∙ c.loop-place.invariant.1)
 
 pub returns : goal.returns
-returns c = (sym (unused-end _ c.loop-place.place (omega arith)) ∙ c.loop-place.invariant.1, search rules)
+returns c = (sym (unused_end _ c.loop-place.place (omega arith)) ∙ c.loop-place.invariant.1, search rules)

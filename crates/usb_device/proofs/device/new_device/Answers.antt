@@ -4,7 +4,7 @@ use native.Mathlib.Omega.{arith}
 use mathlib.Core.Path.{ap, ◌∙◌}
 use Prim.Native.Nat.{ℕ}
 use lib.ListN.{replicate, length-set}
-use Rattle.usb_device.proofs.NewDevice.{length-first, built}
+use Rattle.usb_device.proofs.NewDevice.{length_first, built}
 use Rattle.usb_device.proofs.device.new_device.Goals as goal
 
 pub bounds-bytes-2 : goal.bounds-bytes-2
@@ -30,7 +30,7 @@ mark-requires c = simp length-set (omega arith)
 
 pub mark-requires-2 : goal.mark-requires-2
 mark-requires-2 c =
-    let long = length-first _ (c.fill_zero.ensures ∙ ap (λ (n : ℕ). replicate n 0) c.requires.0) c.mark.ensures in
+    let long = length_first _ (c.fill_zero.ensures ∙ ap (λ (n : ℕ). replicate n 0) c.requires.0) c.mark.ensures in
     omega arith
 
 pub returns : goal.returns

@@ -3,7 +3,7 @@
 use borrow.Author.Rules.{rules}
 use mathlib.Core.Path.{refl}
 use Rattle.usb_device.specs.Ports.{hub_at}
-use Rattle.usb_device.proofs.HubRecord.{filled_none, filled_more, filled-all}
+use Rattle.usb_device.proofs.HubRecord.{filled_none, filled_more, filled_all}
 use Rattle.usb_device.proofs.hub.load_hub.Goals as goal
 
 pub loop-port-init : goal.loop-port-init
@@ -17,4 +17,4 @@ loop-port-preserved c =
 pub returns : goal.returns
 unfolding hub_at
 returns c =
-    rw (filled-all c.loop-port-test.false c.loop-port.invariant.1, filled-all c.loop-port-test.false c.loop-port.invariant.2, c.byte_at-max_children.ensures)
+    rw (filled_all c.loop-port-test.false c.loop-port.invariant.1, filled_all c.loop-port-test.false c.loop-port.invariant.2, c.byte_at-max_children.ensures)

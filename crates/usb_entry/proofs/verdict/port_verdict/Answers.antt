@@ -2,11 +2,11 @@
 use mathlib.Core.Path.{sym}
 use mathlib.Core.Bool.{true, false}
 use borrow.Author.Tests.{lt-ltb, le-ltb}
-use Rattle.usb_entry.proofs.Verdicts.{stays-refused, tested}
+use Rattle.usb_entry.proofs.Verdicts.{stays_refused, tested}
 use Rattle.usb_entry.proofs.verdict.port_verdict.Goals as goal
 
 pub returns-in_default : goal.returns-in_default
-returns-in_default c new outcomes log e = stays-refused _ _ _ _ (c.hub_verdict-verdict.ensures new outcomes log e) _ c.in_default.is
+returns-in_default c new outcomes log e = stays_refused _ _ _ _ (c.hub_verdict-verdict.ensures new outcomes log e) _ c.in_default.is
 
 pub returns-then-port-gt9 : goal.returns-then-port-gt9
 returns-then-port-gt9 c new outcomes log e =

@@ -1,7 +1,7 @@
 -- `usb_hub::ports::port_status` meets its contract. Assumes nothing.
 use mathlib.Core.Path.{◌∙◌}
-use Rattle.usb_device.proofs.HubRecord.{status-at}
+use Rattle.usb_device.proofs.HubRecord.{status_at}
 use Rattle.usb_hub.proofs.ports.port_status.Goals as goal
 
 pub returns : goal.returns
-returns c = c.status_of.ensures ∙ rw c.load_hub.ensures (status-at _ _ _ c.requires.2)
+returns c = c.status_of.ensures ∙ rw c.load_hub.ensures (status_at _ _ _ c.requires.2)

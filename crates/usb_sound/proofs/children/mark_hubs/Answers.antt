@@ -3,7 +3,7 @@
 use borrow.Author.Rules.{rules}
 use mathlib.Core.Path.{refl, sym, ◌∙◌}
 use native.Mathlib.Nat.{sub-zero}
-use Rattle.usb_sound.proofs.Steps.{hubs-pass, hubs-turn, hubs-end}
+use Rattle.usb_sound.proofs.Steps.{hubs_pass, hubs_turn, hubs_end}
 use Rattle.usb_sound.proofs.children.mark_hubs.Goals as goal
 use Rattle.usb_sound.proofs.children.mark_hubs.Goals.{then-byte_at-ne0+else-not-mark_ports, else-byte_at-ne0}
 
@@ -13,7 +13,7 @@ loop-h-init c = (search rules, rw sub-zero)
 pub returns-then-not-mark_ports : goal.returns-then-not-mark_ports
 returns-then-not-mark_ports c = sym
     (c.loop-h.invariant.1
-    ∙ hubs-turn _ _ _ _ _ c.loop-h-test.true c.byte_at.ensures _ _ _ c.if-byte_at-ne0.true
+    ∙ hubs_turn _ _ _ _ _ c.loop-h-test.true c.byte_at.ensures _ _ _ c.if-byte_at-ne0.true
     c.mark_ports.ensures c.if-not-mark_ports.true refl)
 
 pub loop-h-preserved : goal.loop-h-preserved
@@ -22,10 +22,10 @@ loop-h-preserved c = (
   c.loop-h.invariant.1
       ∙ elim c.if-byte_at-ne0.branch [
         | then-byte_at-ne0+else-not-mark_ports w ↦
-            hubs-turn _ _ _ _ _ c.loop-h-test.true c.byte_at.ensures _ _ _ w.if-byte_at-ne0.true w.mark_ports.ensures w.if-not-mark_ports.false w.seen-is
-        | else-byte_at-ne0 w ↦ hubs-pass _ _ _ _ _ c.loop-h-test.true c.byte_at.ensures _ w.if-byte_at-ne0.false w.seen-is
+            hubs_turn _ _ _ _ _ c.loop-h-test.true c.byte_at.ensures _ _ _ w.if-byte_at-ne0.true w.mark_ports.ensures w.if-not-mark_ports.false w.seen-is
+        | else-byte_at-ne0 w ↦ hubs_pass _ _ _ _ _ c.loop-h-test.true c.byte_at.ensures _ w.if-byte_at-ne0.false w.seen-is
       ],
 )
 
 pub returns : goal.returns
-returns c = sym (c.loop-h.invariant.1 ∙ hubs-end _ _ _ _ c.loop-h-test.false)
+returns c = sym (c.loop-h.invariant.1 ∙ hubs_end _ _ _ _ c.loop-h-test.false)

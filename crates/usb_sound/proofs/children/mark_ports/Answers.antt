@@ -2,7 +2,7 @@
 -- Assumes nothing.
 use borrow.Author.Rules.{rules}
 use mathlib.Core.Path.{refl, sym, ◌∙◌}
-use Rattle.usb_sound.proofs.Steps.{ports-turn, ports-end}
+use Rattle.usb_sound.proofs.Steps.{ports_turn, ports_end}
 use Rattle.usb_sound.proofs.children.mark_ports.Goals as goal
 
 pub loop-q-init : goal.loop-q-init
@@ -11,14 +11,14 @@ loop-q-init c = (search rules, refl)
 pub returns-then-not-mark_child : goal.returns-then-not-mark_child
 returns-then-not-mark_child c = sym
     (c.loop-q.invariant.1
-    ∙ ports-turn _ _ _ _ _ _ _ _ c.loop-q-test.true c.count_at-c.ensures c.mark_child.ensures c.if-not-mark_child.true)
+    ∙ ports_turn _ _ _ _ _ _ _ _ c.loop-q-test.true c.count_at-c.ensures c.mark_child.ensures c.if-not-mark_child.true)
 
 pub loop-q-preserved : goal.loop-q-preserved
 loop-q-preserved c = (
   search rules,
   c.loop-q.invariant.1
-      ∙ ports-turn _ _ _ _ _ _ _ _ c.loop-q-test.true c.count_at-c.ensures c.mark_child.ensures c.if-not-mark_child.false,
+      ∙ ports_turn _ _ _ _ _ _ _ _ c.loop-q-test.true c.count_at-c.ensures c.mark_child.ensures c.if-not-mark_child.false,
 )
 
 pub returns : goal.returns
-returns c = sym (c.loop-q.invariant.1 ∙ ports-end _ _ _ _ _ c.loop-q-test.false)
+returns c = sym (c.loop-q.invariant.1 ∙ ports_end _ _ _ _ _ c.loop-q-test.false)

@@ -1,13 +1,13 @@
 -- `usb_transfer::outcome::read_outcome` meets its contract. Assumes nothing.
 use mathlib.Core.Path.{sym, ◌∙◌}
-use Rattle.usb_transfer.proofs.Outcomes.{takes_none, takes-garbled, takes-cut, takes_whole}
+use Rattle.usb_transfer.proofs.Outcomes.{takes_none, takes_garbled, takes_cut, takes_whole}
 use Rattle.usb_transfer.proofs.outcome.read_outcome.Goals as goal
 
 pub returns-then-rest-lt-HEADER_LEN : goal.returns-then-rest-lt-HEADER_LEN
 returns-then-rest-lt-HEADER_LEN c = takes_none _ c.if-rest-lt-HEADER_LEN.true
 
 pub returns-then-rest-size : goal.returns-then-rest-size
-returns-then-rest-size c = takes-cut _ c.if-rest-lt-HEADER_LEN.false (sym c.outcome_listed.ensures ∙ c.if-outcome_listed.true)
+returns-then-rest-size c = takes_cut _ c.if-rest-lt-HEADER_LEN.false (sym c.outcome_listed.ensures ∙ c.if-outcome_listed.true)
     (rw c.data_size-size.ensures.0 at c.if-rest-size.true)
 
 pub returns-then-outcome_listed : goal.returns-then-outcome_listed
@@ -19,4 +19,4 @@ returns-then-outcome_listed c =
     (rw size.0 at size.1))
 
 pub returns : goal.returns
-returns c = takes-garbled _ c.if-rest-lt-HEADER_LEN.false (sym c.outcome_listed.ensures ∙ c.if-outcome_listed.false)
+returns c = takes_garbled _ c.if-rest-lt-HEADER_LEN.false (sym c.outcome_listed.ensures ∙ c.if-outcome_listed.false)
