@@ -1,7 +1,7 @@
 -- What busrun finds by the kinds of the actions are all bytes that the call logged. Assumes nothing.
 use mathlib.Core.Path.{◌≡◌, refl, sym, ap, ◌∙◌}
 use mathlib.Core.Bool.{Bool, true, false, cond, false≢true}
-use mathlib.Core.List.{List}
+use mathlib.Core.List.{List, [], ◌∷◌}
 use Prim.Native.Nat.{ℕ, zero, suc, ◌+◌, ◌*◌, ◌≤◌}
 use native.Mathlib.Nat.{add-zero}
 use native.Mathlib.Omega.{arith}
@@ -19,7 +19,7 @@ use Rattle.usb_model.proofs.Definitions.{definitions}
 use Rattle.usb_model.proofs.Keeps.{left_holds}
 use Rattle.usb_model.proofs.Onward.{long, log-length, later_kept, kinds_logged}
 use Rattle.usb_model.proofs.Demand3.{call_walks}
-use Rattle.busrun.specs.Run.{log_length, actions_in, lends, logged, attached, busrun, Writes}
+use Rattle.busrun.specs.Run.{log_length, is_logged, actions_in, lends, logged, attached, busrun, Writes}
 
 -- ---- actions of the three kinds, and a kind of 0 behind them
 
@@ -46,15 +46,21 @@ first_kind n l e = go (is_kind (get_or l 0 0)) refl e (kinds_most is_kind n (dro
     go true k e h = (kind_some _ k, omega (arith, e))
     go false k e h = absurd (omega (arith, e, h))
 
+-- the first action of a log, and those behind it
+first_of : (n : ℕ) (l : List ℕ) → actions_in (suc n) l ≡ cond (is_logged l) (1 + actions_in n (drop 16 l)) 0
+unfolding actions_in
+first_of n [] = refl
+first_of n (x ∷ l) = refl
+
 counted : (n a : ℕ) (l : List ℕ) → a ≤ n → kinds_in is_kind a l ≡ a → get_or l (16 * a) 0 ≡ 0 → actions_in n l ≡ a
 unfolding actions_in
 counted zero a l h e z = omega (arith, h)
-counted (suc n) zero l h e z = rw (eq-eqb (get_or l 0 0) 0 z) refl
+counted (suc n) zero l h e z = first_of n l ∙ rw (eq-eqb (get_or l 0 0) 0 z) refl
 counted (suc n) (suc a) l h e z =
     let first = first_kind a l e in
     let behind : get_or (drop 16 l) (16 * a) 0 ≡ 0 = get_or-drop 16 l (16 * a) 0 ∙ ap (λ (i : ℕ). get_or l i 0) (omega arith) ∙ z in
     let more : actions_in n (drop 16 l) ≡ a = counted n a (drop 16 l) (omega (arith, h)) first.1 behind in
-    rw (ne_eqb (get_or l 0 0) 0 first.0) (omega (arith, more))
+    first_of n l ∙ rw (ne_eqb (get_or l 0 0) 0 first.0) (omega (arith, more))
 
 -- ---- the call
 

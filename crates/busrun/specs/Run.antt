@@ -1,5 +1,7 @@
 -- What busrun writes.
-use Rattle.std.specs.Prelude.{◌≡◌, cond, List, ℕ, zero, suc, ◌+◌, ◌*◌, eqb, get_or, take, drop, replicate}
+use Rattle.std.specs.Prelude.{◌≡◌, Bool, not, List, ℕ, ◌*◌, nat_eq, get_or, take, replicate}
+use Rattle.std.specs.List.{prefix_len}
+use Rattle.std.specs.Simd.{first_chunks}
 use Rattle.usb_types.specs.Actions.{action_length}
 use Rattle.usb_store.specs.Layout.{empty_store}
 use Rattle.usb_model.specs.Programs.{end_of}
@@ -10,10 +12,13 @@ use Rattle.usb_entry.specs.Replies.{lent}
 abbrev pub log_length : ℕ
 log_length = 65536
 
--- how many actions stand at the start of a log, at most n: "kind (1 request, 2 wait, 3 ..)", and 0 where none was logged
+-- was an action logged in these 16 bytes? "kind (1 request, 2 wait, 3 ..)", and 0 where none was
+abbrev pub is_logged : List ℕ → Bool
+is_logged action = not (nat_eq (get_or action 0 0) 0)
+
+-- how many actions stand at the start of a log, at most n
 unfoldable pub actions_in : ℕ → List ℕ → ℕ
-actions_in zero log = 0
-actions_in (suc n) log = cond (eqb (get_or log 0 0) 0) 0 (actions_in n (drop action_length log) + 1)
+actions_in n log = prefix_len is_logged (first_chunks action_length n log)
 
 -- the bytes of the actions that a log of zeros got
 unfoldable pub logged : List ℕ → List ℕ

@@ -2,8 +2,9 @@
 #![tactic(auto)]
 
 ghost use Rattle.std.specs.Prelude.{◌≡◌, ◌*◌, ◌≤◌, length, take, replicate};
+ghost use Rattle.std.specs.List.{prefix_len};
 ghost use Rattle.usb_types.specs.Actions.{action_length};
-ghost use Rattle.busrun.specs.Run.{log_length, actions_in, attached, busrun};
+ghost use Rattle.busrun.specs.Run.{log_length, is_logged, actions_in, attached, busrun};
 
 use bytes_io::read_full;
 use lidrumak::lidrumak_root_attach;
@@ -11,24 +12,23 @@ use std::io;
 use usb_store::STORE_LEN;
 use usb_types::pipe::ACTION_LEN;
 
-const MAX_ACTIONS: usize = 4096;
-
 // How many bytes of outcomes are read at most.
 const MAX_OUTCOMES: usize = 65536;
+
+// How many actions stand before the first that was not logged.
+fn leading(actions: &[[u8; ACTION_LEN]]) -> usize
+    ensures { result ≡ prefix_len is_logged actions.now }
+{
+    actions.iter().take_while(|action| action[0] != 0).count()
+}
 
 // How many actions stand at the start of a log that was zeros.
 fn actions(log: &[u8]) -> usize
     requires { length log.now ≡ log_length }
     ensures { (result ≡ actions_in 4096 log.now) × (result ≤ 4096) }
 {
-    let mut n = 0;
-    while n < MAX_ACTIONS {
-        if log[n * ACTION_LEN] == 0 {
-            return n;
-        }
-        n += 1;
-    }
-    n
+    let (actions, _) = log.as_chunks();
+    leading(actions)
 }
 
 // Attaches the root hub; how many bytes were logged.

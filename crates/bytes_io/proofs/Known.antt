@@ -1,5 +1,5 @@
 -- What two reads in a row do to the bytes that a reader has left.
-use Rattle.std.proofs.Common.{◌≡◌, ℕ, List, [], ◌++◌, take, None, Some, refl, sym, ap, ◌∙◌, append_assoc, ◌≤◌, drop, length, ◌+◌}
+use Rattle.std.proofs.Common.{◌≡◌, ℕ, List, ◌++◌, take, None, Some, refl, sym, ap, ◌∙◌, append_assoc, ◌≤◌, drop, length, ◌+◌}
 use Rattle.std.proofs.Math.Seq.{take-append-add}
 use Rattle.std.proofs.lemmas.List.{length-take-le, take-append-le}
 use borrow.Rule.Slice.PartMut.{put_mid}

@@ -16,6 +16,7 @@ pub fn read_full<R: Read>(reader: &mut R, buffer: &mut [u8]) -> io::Result<usize
     ensures failed { OnErr result ((n : ℕ) × (n ≤ length buffer.new)
         × Consumes (R.remaining reader.old) (R.remaining reader.new) (take n buffer.new)) }
 {
+    // No read_exact: where the reader ends first it says nothing of how many bytes were read, which is this function's promise.
     let mut at = 0;
     while at < buffer.len() {
         let n = reader.read(&mut buffer[at..])?;

@@ -11,49 +11,53 @@ use borrow.Author.Tests.{lt-ltb, le-ltb, eq-eqb, ne_eqb}
 use Rattle.usb_types.specs.Answers.{answer_number, refusal_number}
 use Rattle.usb_types.specs.declared.types.Refusal.{Refusal}
 use Rattle.usb_types.specs.declared.types.Refusal.TheVariants.{BadArgument}
-use Rattle.usb_types.specs.declared.types.Answer.{Answer}
-use Rattle.usb_types.specs.declared.types.Answer.TheVariants.{Ok, Error, Stop}
-use Rattle.usb_store.specs.Layout.{place_count}
+use Rattle.std.specs.Prelude.{Bool, Result, Ok, Err}
+use Rattle.usb_types.specs.Answers.{Answer}
+use Rattle.usb_types.specs.declared.types.ErrorCode.{ErrorCode}
+use Rattle.usb_types.specs.declared.types.Failure.TheVariants.{Error, Stop}
+use Rattle.usb_model.specs.Programs.{ran}
+use Rattle.usb_store.specs.Layout.{place_count, ports_per_hub}
 use Rattle.usb_device.specs.Device.{first_unused}
 use Rattle.usb_sound.specs.Sound.{Sound}
-use Rattle.usb_model.specs.declared.Progress.{Progress}
 use Rattle.usb_model.specs.World.{World, M}
 use Rattle.usb_model.specs.Walk.{record_length, walk}
 use Rattle.usb_model.specs.Entry as Model
-use Rattle.usb_model.specs.Entry.{Lent, start, leaves, answered, call, configuration_walk}
+use Rattle.usb_model.specs.Entry.{Lent, start, leaves, answered, call, no_port, is_unused, configuration_walk}
 use Rattle.usb_model.specs.Kept.{Bytes, Good, LentBytes}
 use Rattle.usb_model.proofs.Entries.{start_good}
-use Rattle.usb_transfer.specs.declared.log.Step.{Step}
-use Rattle.usb_transfer.specs.Runs.{here, Fit, gave, Ends}
-use Rattle.usb_walk.specs.Steps.{ends_with}
-use Rattle.usb_driver.specs.Bus.{Bus}
+use Rattle.usb_model.proofs.Accepted.{HubAccepted, root_accepted, hub_accepted, port_inside, used_inside}
+use Rattle.usb_transfer.specs.declared.bus.UsbBus.{UsbBus}
+use Rattle.usb_transfer.specs.Runs.{world, nothing_done, Fit, Does}
+use Rattle.usb_walk.specs.Steps.{ends_with, answer_of}
+use Rattle.usb_driver.specs.Bus.{Bus, OnBus}
+use Rattle.lidrumak.specs.declared.call.Call.{Call}
+use Rattle.lidrumak.specs.declared.call.Call.TheVariants.{RootAttach, Scan, PortCheck, ChildReset, ChildCheck, RetriedReset, ConnectionChange}
+use Rattle.lidrumak.specs.Entries.{verdict, CanRun}
 use Rattle.usb_entry.specs.declared.reply.Reply.{Reply}
-use Rattle.usb_entry.specs.declared.verdict.Verdict.{Verdict}
-use Rattle.usb_entry.specs.declared.verdict.Verdict.TheVariants.{Accepted, Refused}
-use Rattle.usb_entry.specs.Replies.{left, walk_left, refusal_reply, step_reply, nothing_done, told}
+use Rattle.usb_entry.specs.Replies.{left, walk_left, refusal_reply, answer_reply, told}
 
 -- ---- a call, refused or run
 
-answered_is : (a : Answer) (w : World) → leaves (answer_number a) w ≡ answered (gave a tt w)
-answered_is Ok w = refl
-answered_is (Error e) w = refl
-answered_is (Stop h) w = refl
+answered_is : (a : Answer) (w : World) → leaves (answer_number a) w ≡ answered (ran a w)
+answered_is (Ok _) w = refl
+answered_is (Err (Error e)) w = refl
+answered_is (Err (Stop h)) w = refl
 
-module _ (l : Lent) (m : M (Unit {0})) {verdict : Model.Verdict} (v : Verdict) (e : told v ≡ verdict) where
-  pub refused_call : {r : Refusal} → v ≡ Refused r → (reply : Reply) → reply ≡ refusal_reply r → left reply l.new l.log ≡ call l verdict m
+module _ (l : Lent) (m : M (Unit {0})) {verdict : Model.Verdict} {v : Result (Unit {0}) Refusal} (e : told v ≡ verdict) where
+  pub refused_call : {r : Refusal} → v ≡ Err r → (reply : Reply) → reply ≡ refusal_reply r → left reply l.new l.log ≡ call l verdict m
   unfolding call
   refused_call f reply g = rw (← e, f, g)
 
-  -- the driver ran m in the model's first world
-  pub accepted_call : v ≡ Accepted → {w : World} → w ≡ start l → (step : Step) {s log : List ℕ}
-      → Ends m w step.answer tt (here s log l.outcomes step.at) → (reply : Reply) → reply ≡ step_reply step
+  -- the driver ran m in the model's first world; the slices hold what the bus held
+  pub accepted_call : v ≡ Ok tt → {b b₁ : UsbBus} {a : Answer} → world b ≡ start l → Does m b b₁ a
+      → (reply : Reply) → reply ≡ answer_reply a b₁.at.requests → {s log : List ℕ} → s ≡ b₁.store.now → log ≡ b₁.log.now
       → left reply s log ≡ call l verdict m
   unfolding call
-  accepted_call f b step {s} {log} d reply g =
-      rw (← e, f, g) (answered_is step.answer (here s log l.outcomes step.at) ∙ ap answered (sym d.is ∙ ap m b))
+  accepted_call f {b} {b₁} {a} k d reply g es el =
+      rw (← e, f, g, es, el) (answered_is a (world b₁) ∙ ap answered (sym d.is ∙ ap m k))
 
-pub accepts : {verdict : Model.Verdict} (v : Verdict) → told v ≡ verdict → v ≡ Accepted → verdict ≡ Model.accepted
-accepts v e f = sym e ∙ ap told f
+pub accepts : {verdict : Model.Verdict} {v : Result (Unit {0}) Refusal} → told v ≡ verdict → v ≡ Ok tt → verdict ≡ Model.accepted
+accepts e f = sym e ∙ ap told f
 
 -- ---- the first world of a call
 
@@ -61,8 +65,9 @@ accepts v e f = sym e ∙ ap told f
 pub bytes_of : {l : List ℕ} → ((i : ℕ) → Fits w8 (get_or l i 0)) → Bytes l
 bytes_of f = record { below = λ i. (f i).fits }
 
-pub first_world : (l : Lent) {s : List ℕ} → s ≡ l.old → {at : Progress} → at ≡ nothing_done → here s l.log l.outcomes at ≡ start l
-first_world l copied none = rw (copied, none)
+-- the bus of a call lends its slices, and the store is copied
+pub first_world : (l : Lent) (b : UsbBus) → b.store.now ≡ l.old → b.log.now ≡ l.log → b.outcomes.now ≡ l.outcomes → b.at ≡ nothing_done → world b ≡ start l
+first_world l b s g o a = rw (s, g, o, a) refl
 
 -- what the functions of the driver ask of it
 pub record Started (w : World) : Type 0 where
@@ -83,6 +88,44 @@ on_bus l bytes r e place inside used =
     let s = started l bytes r refl in
     subst (Bus place) (sym e) (record { fit = s.fit; good = s.good; used = omega arith; inside = inside })
 
+-- ---- an accepted call
+
+-- the store is sound, and as long as the new one
+pub record Accepted (l : Lent) : Type 0 where
+  pub lengths : length l.new ≡ length l.old
+  pub is_sound : Sound l.old
+
+pub accepted_lends : (c : Call) (l : Lent) → verdict c l ≡ Model.accepted → Accepted l
+accepted_lends (RootAttach speed) l e = let p = root_accepted l speed e in record { lengths = p.lengths; is_sound = p.is_sound }
+accepted_lends (Scan hub) l e = let p = hub_accepted l hub _ e in record { lengths = p.lengths; is_sound = p.is_sound }
+accepted_lends (PortCheck hub port) l e = let p = hub_accepted l hub _ e in record { lengths = p.lengths; is_sound = p.is_sound }
+accepted_lends (ChildReset hub child) l e = let p = hub_accepted l hub _ e in record { lengths = p.lengths; is_sound = p.is_sound }
+accepted_lends (ChildCheck hub child) l e = let p = hub_accepted l hub _ e in record { lengths = p.lengths; is_sound = p.is_sound }
+accepted_lends (RetriedReset hub port) l e = let p = hub_accepted l hub _ e in record { lengths = p.lengths; is_sound = p.is_sound }
+accepted_lends (ConnectionChange hub port) l e = let p = hub_accepted l hub _ e in record { lengths = p.lengths; is_sound = p.is_sound }
+
+module _ (l : Lent) (bytes : LentBytes l) (b : UsbBus) (k : world b ≡ start l) where
+  at_hub : (hub : ℕ) {bad : Bool} → HubAccepted l hub bad → OnBus hub b
+  at_hub hub p = on_bus l bytes p.is_sound k hub p.inside p.first
+
+  at_port : (hub port : ℕ) → Model.hub_verdict l hub (no_port port) ≡ Model.accepted → OnBus hub b × (port < ports_per_hub)
+  at_port hub port e = let p = hub_accepted l hub _ e in (at_hub hub p, port_inside port p.good)
+
+  at_child : (hub child : ℕ) → Model.hub_verdict l hub (is_unused l child) ≡ Model.accepted → OnBus hub b × (child < place_count)
+  at_child hub child e = let p = hub_accepted l hub _ e in (at_hub hub p, used_inside l child p.good)
+
+  pub can_run : (c : Call) → verdict c l ≡ Model.accepted → CanRun c b
+  can_run (RootAttach speed) e =
+      let p = root_accepted l speed e in
+      let s = started l bytes p.is_sound k in
+      (s.fit, s.good, omega (arith, p.low))
+  can_run (Scan hub) e = at_hub hub (hub_accepted l hub _ e)
+  can_run (PortCheck hub port) e = at_port hub port e
+  can_run (ChildReset hub child) e = at_child hub child e
+  can_run (ChildCheck hub child) e = at_child hub child e
+  can_run (RetriedReset hub port) e = at_port hub port e
+  can_run (ConnectionChange hub port) e = at_port hub port e
+
 -- ---- the walk alone
 
 module _ (d kept : List ℕ) (n : ℤ) where
@@ -95,7 +138,7 @@ module _ (d kept : List ℕ) (n : ℤ) where
     unfolding configuration_walk
     wrong_record e h = simp (le-ltb 65535 (length d) short, ne_eqb (length kept) record_length h, e)
 
-    pub walked_all : length kept ≡ record_length → (answer : Answer) (after : List ℕ) → ends_with answer after ≡ walk d kept
-        → n ≡ answer_number answer → walk_left n after ≡ configuration_walk d kept
+    pub walked_all : length kept ≡ record_length → (answer : Result (Unit {0}) ErrorCode) (after : List ℕ) → ends_with answer after ≡ walk d kept
+        → n ≡ answer_number (answer_of answer) → walk_left n after ≡ configuration_walk d kept
     unfolding configuration_walk
     walked_all h answer after w e = simp (le-ltb 65535 (length d) short, eq-eqb (length kept) record_length h, e, ← w)

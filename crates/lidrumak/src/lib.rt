@@ -1,22 +1,19 @@
 // The calls: numbers and byte slices.
 #![tactic(auto)]
 
+mod call;
+
 ghost use Rattle.std.specs.Prelude.{◌≡◌};
 ghost use Rattle.usb_model.specs.Entry.{root_attach, scan, port_check, child_reset, child_check, retried_reset, connection_change, configuration_walk};
 ghost use Rattle.usb_entry.specs.Replies.{lent, left, walk_left};
 
-use usb_child_reset::hub_child_reset;
-use usb_driver::hub::{hub_check_connection, hub_port_connection_changed};
-use usb_driver::usbd::usb_attach_root_hub;
-use usb_entry::reply::{Reply, begin, refuse, report};
-use usb_entry::verdict::{Verdict, child_verdict, hub_verdict, port_verdict, root_verdict};
-use usb_retry::hub_port_reset;
-use usb_scan::{hub_check_connection_device, hub_check_for_change};
-use usb_sound::copy_store;
-use usb_types::types::{Refusal, answer_number, refusal_number};
+use crate::call::{Call, enter};
+use usb_entry::reply::Reply;
+use usb_types::types::Refusal;
 use usb_walk::{RECORD_LEN, walk};
 
 // UsbAttachRootHub.
+#[tactic(auto, unfolding(usb_model::specs::Entry::root_attach))]
 pub fn lidrumak_root_attach(
     old: &[u8],
     new: &mut [u8],
@@ -27,28 +24,20 @@ pub fn lidrumak_root_attach(
     ensures { left result new.new log.new
         ≡ root_attach speed (lent old.now new.old outcomes.now log.old) }
 {
-    let verdict = root_verdict(old, new.len(), speed);
-    if let Verdict::Refused(refusal) = verdict {
-        return refuse(refusal);
-    }
-    copy_store(new, old);
-    report(usb_attach_root_hub(new, log, outcomes, begin(), speed as u8))
+    enter(Call::RootAttach(speed), old, new, outcomes, log)
 }
 
 // HubCheckForChange.
+#[tactic(auto, unfolding(usb_model::specs::Entry::scan))]
 pub fn lidrumak_scan(old: &[u8], new: &mut [u8], outcomes: &[u8], log: &mut [u8], hub: u32) -> Reply
     ensures { left result new.new log.new
         ≡ scan hub (lent old.now new.old outcomes.now log.old) }
 {
-    let verdict = hub_verdict(old, new.len(), hub);
-    if let Verdict::Refused(refusal) = verdict {
-        return refuse(refusal);
-    }
-    copy_store(new, old);
-    report(hub_check_for_change(new, log, outcomes, begin(), hub as usize))
+    enter(Call::Scan(hub), old, new, outcomes, log)
 }
 
 // HubCheckConnection.
+#[tactic(auto, unfolding(usb_model::specs::Entry::port_check))]
 pub fn lidrumak_port_check(
     old: &[u8],
     new: &mut [u8],
@@ -60,15 +49,11 @@ pub fn lidrumak_port_check(
     ensures { left result new.new log.new
         ≡ port_check hub port (lent old.now new.old outcomes.now log.old) }
 {
-    let verdict = port_verdict(old, new.len(), hub, port);
-    if let Verdict::Refused(refusal) = verdict {
-        return refuse(refusal);
-    }
-    copy_store(new, old);
-    report(hub_check_connection(new, log, outcomes, begin(), hub as usize, port as usize))
+    enter(Call::PortCheck(hub, port), old, new, outcomes, log)
 }
 
 // HubChildReset.
+#[tactic(auto, unfolding(usb_model::specs::Entry::child_reset))]
 pub fn lidrumak_child_reset(
     old: &[u8],
     new: &mut [u8],
@@ -80,15 +65,11 @@ pub fn lidrumak_child_reset(
     ensures { left result new.new log.new
         ≡ child_reset hub child (lent old.now new.old outcomes.now log.old) }
 {
-    let verdict = child_verdict(old, new.len(), hub, child);
-    if let Verdict::Refused(refusal) = verdict {
-        return refuse(refusal);
-    }
-    copy_store(new, old);
-    report(hub_child_reset(new, log, outcomes, begin(), hub as usize, child as usize))
+    enter(Call::ChildReset(hub, child), old, new, outcomes, log)
 }
 
 // HubCheckConnectionDevice.
+#[tactic(auto, unfolding(usb_model::specs::Entry::child_check))]
 pub fn lidrumak_child_check(
     old: &[u8],
     new: &mut [u8],
@@ -100,15 +81,11 @@ pub fn lidrumak_child_check(
     ensures { left result new.new log.new
         ≡ child_check hub child (lent old.now new.old outcomes.now log.old) }
 {
-    let verdict = child_verdict(old, new.len(), hub, child);
-    if let Verdict::Refused(refusal) = verdict {
-        return refuse(refusal);
-    }
-    copy_store(new, old);
-    report(hub_check_connection_device(new, log, outcomes, begin(), hub as usize, child as usize))
+    enter(Call::ChildCheck(hub, child), old, new, outcomes, log)
 }
 
 // HubPortReset.
+#[tactic(auto, unfolding(usb_model::specs::Entry::retried_reset))]
 pub fn lidrumak_retried_reset(
     old: &[u8],
     new: &mut [u8],
@@ -120,15 +97,11 @@ pub fn lidrumak_retried_reset(
     ensures { left result new.new log.new
         ≡ retried_reset hub port (lent old.now new.old outcomes.now log.old) }
 {
-    let verdict = port_verdict(old, new.len(), hub, port);
-    if let Verdict::Refused(refusal) = verdict {
-        return refuse(refusal);
-    }
-    copy_store(new, old);
-    report(hub_port_reset(new, log, outcomes, begin(), hub as usize, port as usize))
+    enter(Call::RetriedReset(hub, port), old, new, outcomes, log)
 }
 
 // HubPortConnectionChanged.
+#[tactic(auto, unfolding(usb_model::specs::Entry::connection_change))]
 pub fn lidrumak_connection_change(
     old: &[u8],
     new: &mut [u8],
@@ -140,12 +113,7 @@ pub fn lidrumak_connection_change(
     ensures { left result new.new log.new
         ≡ connection_change hub port (lent old.now new.old outcomes.now log.old) }
 {
-    let verdict = port_verdict(old, new.len(), hub, port);
-    if let Verdict::Refused(refusal) = verdict {
-        return refuse(refusal);
-    }
-    copy_store(new, old);
-    report(hub_port_connection_changed(new, log, outcomes, begin(), hub as usize, port as usize))
+    enter(Call::ConnectionChange(hub, port), old, new, outcomes, log)
 }
 
 // "Over 65,535 descriptor bytes, or a record of another length, is -2".
@@ -154,12 +122,11 @@ const MAX_DESCRIPTORS: usize = 65535;
 pub fn lidrumak_configuration_walk(descriptors: &[u8], record: &mut [u8]) -> i32
     ensures { walk_left result «record».new ≡ configuration_walk descriptors.now «record».old }
 {
-    let refused = refusal_number(Refusal::BadArgument);
-    if descriptors.len() > MAX_DESCRIPTORS {
-        return refused;
+    if descriptors.len() > MAX_DESCRIPTORS || record.len() != RECORD_LEN {
+        return i32::from(Refusal::BadArgument);
     }
-    if record.len() != RECORD_LEN {
-        return refused;
+    match walk(descriptors, record) {
+        Ok(()) => 0,
+        Err(error) => i32::from(error),
     }
-    answer_number(walk(descriptors, record))
 }

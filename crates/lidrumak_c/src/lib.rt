@@ -1,4 +1,4 @@
-// The calls of lidrumak as a kernel in C or Rust links them: a slice is a pointer and a length.
+// The calls of lidrumak as a kernel in C or Rust links them: a slice is a pointer and a length. C calls each by a name of its own.
 #![tactic(auto)]
 
 ghost use Rattle.std.specs.Prelude.{◌≡◌};

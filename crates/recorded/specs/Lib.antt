@@ -1,3 +1,4 @@
 pub mod Numbers
+pub mod Entries
 pub mod Heads
 pub mod Files

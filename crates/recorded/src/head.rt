@@ -1,14 +1,16 @@
 // The head of a recorded call and of a recorded walk (crates/vectors/README.md).
-ghost use Rattle.std.specs.Prelude.{◌≡◌, ◌+◌, ◌≤◌, ◌<◌, length};
+ghost use Rattle.std.specs.Prelude.{◌≡◌, ◌+◌, ◌≤◌, length, take, drop};
 ghost use Rattle.usb_types.specs.Numbers.{number_in};
-ghost use Rattle.recorded.specs.Numbers.{signed as Numbers·signed};
 ghost use Rattle.recorded.specs.Heads.{asked_in, recorded_in, walk_in, fits as Heads·fits, walk_fits};
 
-use usb_store::wide;
+use crate::entry::EntryPoint;
 
 pub const HEAD_LEN: usize = 48;
 
 pub const WALK_HEAD_LEN: usize = 16;
+
+// Of an edit: an offset of 4 bytes and a byte.
+pub const EDIT_LEN: usize = 5;
 
 pub const MAX_STORE: usize = 40000;
 
@@ -21,6 +23,7 @@ pub const MAX_BYTES: usize = 65536;
 #[derive(Clone, Copy)]
 pub struct Asked {
     pub flags: u8,
+    // The file's byte and no EntryPoint, since asked_in cannot fail, and the stores of a sequence are for any entry.
     pub entry: u8,
     pub edits: u8,
     pub first: u32,
@@ -48,117 +51,94 @@ pub struct RecordedWalk {
     pub record_sum: u32,
 }
 
-// A number of 4 bytes.
+// The N bytes at an offset.
+fn bytes_at<const N: usize>(bytes: &[u8], at: usize) -> [u8; N]
+    requires { at + N ≤ length bytes.now }
+    ensures { result ≡ take N (drop at bytes.now) }
+{
+    let mut part = [0; N];
+    part.copy_from_slice(&bytes[at..at + N]);
+    part
+}
+
+// A number of 4 bytes at any offset. That of usb_store is for a field of a place alone, and promises that.
+#[tactic(auto, using(crate::proofs::Bytes::number_4))]
 pub fn u32_at(bytes: &[u8], at: usize) -> u32
     requires { at + 4 ≤ length bytes.now }
     ensures { result ≡ number_in bytes.now at 4 }
 {
-    let b0 = wide(bytes[at]);
-    let b1 = wide(bytes[at + 1]);
-    let b2 = wide(bytes[at + 2]);
-    let b3 = wide(bytes[at + 3]);
-    b0 + b1 * 256 + b2 * 65536 + b3 * 16777216
+    u32::from_le_bytes(bytes_at(bytes, at))
 }
 
 // A number of 8 bytes.
+#[tactic(auto, using(crate::proofs::Bytes::number_8))]
 fn u64_at(bytes: &[u8], at: usize) -> u64
     requires { at + 8 ≤ length bytes.now }
     ensures { result ≡ number_in bytes.now at 8 }
 {
-    let low = u32_at(bytes, at);
-    let high = u32_at(bytes, at + 4);
-    low as u64 + high as u64 * 4294967296
+    u64::from_le_bytes(bytes_at(bytes, at))
 }
 
-fn signed(word: u32) -> i32
-    ensures { result ≡ Numbers·signed word }
-{
-    if word < 2147483648 {
-        return word as i32;
-    }
-    let below = 4294967295 - word;
-    -1 - below as i32
-}
-
+// asked_in, recorded_in and walk_in take any slice of the length; From<&[u8; 48]> would take less.
+#[tactic(auto, unfolding(crate::specs::Heads::asked_in))]
 pub fn asked_in(bytes: &[u8]) -> Asked
     requires { length bytes.now ≡ 48 }
     ensures { result ≡ asked_in bytes.now }
 {
-    let first = u32_at(bytes, 4);
-    let second = u32_at(bytes, 8);
-    let old_len = u32_at(bytes, 12);
-    let new_len = u32_at(bytes, 16);
-    let log_len = u32_at(bytes, 20);
-    let outcomes_len = u32_at(bytes, 24);
     Asked {
         flags: bytes[0],
         entry: bytes[1],
         edits: bytes[2],
-        first,
-        second,
-        old_len: old_len as usize,
-        new_len: new_len as usize,
-        log_len: log_len as usize,
-        outcomes_len: outcomes_len as usize,
+        first: u32_at(bytes, 4),
+        second: u32_at(bytes, 8),
+        old_len: u32_at(bytes, 12) as usize,
+        new_len: u32_at(bytes, 16) as usize,
+        log_len: u32_at(bytes, 20) as usize,
+        outcomes_len: u32_at(bytes, 24) as usize,
     }
 }
 
+#[tactic(auto, unfolding(crate::specs::Heads::recorded_in), using(crate::proofs::Bytes::signed_word))]
 pub fn recorded_in(bytes: &[u8]) -> Recorded
     requires { length bytes.now ≡ 48 }
     ensures { result ≡ recorded_in bytes.now }
 {
-    let answer = signed(u32_at(bytes, 28));
-    let requests = u64_at(bytes, 32);
-    let log_sum = u32_at(bytes, 40);
-    let store_sum = u32_at(bytes, 44);
     Recorded {
-        answer,
-        requests,
-        log_sum,
-        store_sum,
+        answer: u32_at(bytes, 28).cast_signed(),
+        requests: u64_at(bytes, 32),
+        log_sum: u32_at(bytes, 40),
+        store_sum: u32_at(bytes, 44),
     }
 }
 
+#[tactic(auto, unfolding(crate::specs::Heads::walk_in), using(crate::proofs::Bytes::signed_word))]
 pub fn walk_in(bytes: &[u8]) -> RecordedWalk
     requires { length bytes.now ≡ 16 }
     ensures { result ≡ walk_in bytes.now }
 {
-    let descriptors_len = u32_at(bytes, 0);
-    let record_len = u32_at(bytes, 4);
-    let answer = signed(u32_at(bytes, 8));
-    let record_sum = u32_at(bytes, 12);
     RecordedWalk {
-        descriptors_len: descriptors_len as usize,
-        record_len: record_len as usize,
-        answer,
-        record_sum,
+        descriptors_len: u32_at(bytes, 0) as usize,
+        record_len: u32_at(bytes, 4) as usize,
+        answer: u32_at(bytes, 8).cast_signed(),
+        record_sum: u32_at(bytes, 12),
     }
 }
 
 // May the call be run in the buffers that there are?
+#[tactic(auto, unfolding(crate::specs::Heads::fits))]
 pub fn fits(asked: Asked) -> bool
     ensures { result ≡ Heads·fits asked }
 {
-    if asked.entry >= 7 {
-        return false;
-    }
-    if asked.old_len > MAX_STORE {
-        return false;
-    }
-    if asked.new_len > MAX_STORE {
-        return false;
-    }
-    if asked.log_len > MAX_BYTES {
-        return false;
-    }
-    asked.outcomes_len <= MAX_BYTES
+    EntryPoint::try_from(asked.entry).is_ok()
+        && asked.old_len <= MAX_STORE
+        && asked.new_len <= MAX_STORE
+        && asked.log_len <= MAX_BYTES
+        && asked.outcomes_len <= MAX_BYTES
 }
 
+#[tactic(auto, unfolding(crate::specs::Heads::walk_fits))]
 pub fn walk_fits(walk: RecordedWalk) -> bool
     ensures { result ≡ walk_fits walk }
 {
-    if walk.descriptors_len > MAX_BYTES {
-        return false;
-    }
-    walk.record_len <= MAX_RECORD
+    walk.descriptors_len <= MAX_BYTES && walk.record_len <= MAX_RECORD
 }

@@ -1,5 +1,6 @@
-// Recorded calls and walks: their files and their heads.
+// Recorded calls and walks: their files, their heads and their entry points.
 #![tactic(auto)]
 
+pub mod entry;
 pub mod file;
 pub mod head;

@@ -1,3 +1,2 @@
-pub mod Buffers
 pub mod Agreement
-pub mod Fits
+pub mod Buffers

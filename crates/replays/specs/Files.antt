@@ -1,19 +1,16 @@
 -- What was read of a file.
-use Rattle.std.specs.Prelude.{◌≡◌, Bool, true, false, ◌<◌}
-use Rattle.replays.specs.declared.file.Next.{Next}
-use Rattle.replays.specs.declared.file.Next.TheVariants.{Replayed, End}
+use Rattle.std.specs.Prelude.{◌≡◌, List, ℕ, ◌<◌, codes}
+use Rattle.recorded.specs.declared.entry.EntryPoint.TheVariants.{ConfigurationWalk}
+use Rattle.recorded.specs.Entries.{number_of}
+use Rattle.replays.specs.declared.file.RecordKind.{RecordKind}
+use Rattle.replays.specs.declared.file.RecordKind.TheVariants.{Call, Walk}
+use Rattle.replays.specs.declared.file.Replayed.{Replayed}
 
--- what was read is counted as a call: "entry: 0 root attach, .., 6 connection change"
-abbrev pub OfCall : Next → Type 0
-OfCall (Replayed entry agrees) = entry < 7
-OfCall End = Unit {0}
+abbrev pub kind_name : RecordKind → List ℕ
+kind_name Call = codes "call"
+kind_name Walk = codes "walk"
 
--- what was read is counted as a walk
-abbrev pub OfWalk : Next → Type 0
-OfWalk (Replayed entry agrees) = entry ≡ 7
-OfWalk End = Unit {0}
-
--- what was read of walks or of calls is counted as one
-abbrev pub OfFile : Bool → Next → Type 0
-OfFile true next = OfWalk next
-OfFile false next = OfCall next
+-- what was read of calls is counted as a call, "entry: 0 root attach, .., 6 connection change", and what was read of walks as a walk
+abbrev pub IsOf : RecordKind → Replayed → Type 0
+IsOf Call replayed = number_of replayed.entry < 7
+IsOf Walk replayed = replayed.entry ≡ ConfigurationWalk

@@ -27,16 +27,6 @@ entry_point entry first second lent =
 abbrev pub filled : ℕ → List ℕ
 filled n = replicate n 238
 
--- the buffers, as long as a store, a log and a record may be
-unfoldable pub store_buffer : List ℕ
-store_buffer = filled 40000
-
-unfoldable pub log_buffer : List ℕ
-log_buffer = filled 65536
-
-unfoldable pub record_buffer : List ℕ
-record_buffer = filled 969
-
 -- what a call leaves, in a sequence whose store is s
 unfoldable pub replayed : Asked → List ℕ → List ℕ → List ℕ → Left
 replayed asked edits outcomes s =

@@ -1,3 +1,2 @@
+pub mod Stores
 pub mod Sums
-pub mod Sequences
-pub mod Counting

@@ -1,7 +1,7 @@
 -- The stores of a sequence of calls.
-use Rattle.std.specs.Prelude.{Bool, cond, List, ℕ, zero, suc, ◌/◌, ◌%◌, eqb, get_or, drop, set, replicate}
+use Rattle.std.specs.Prelude.{Bool, cond, List, ◌++◌, ℕ, ◌/◌, ◌%◌, eqb, get_or, take, set, replicate, fold}
+use Rattle.std.specs.Simd.{first_chunks}
 use Rattle.usb_store.specs.Layout.{store_length, empty_store}
-use Rattle.usb_store.specs.Access.{write}
 use Rattle.usb_types.specs.Numbers.{number_in}
 use Rattle.recorded.specs.declared.head.Asked.{Asked}
 
@@ -15,12 +15,15 @@ carries asked = eqb (asked.flags / 2 % 2) 1
 
 -- "cut to the old length or with zeros up to it"
 unfoldable pub resized : ℕ → List ℕ → List ℕ
-resized n s = write (replicate n 0) 0 s
+resized n s = take n (s ++ replicate n 0)
 
--- n edits, "5 bytes each: an offset of 4 bytes and a byte"
+-- an edit, "5 bytes: an offset of 4 bytes and a byte"
+abbrev pub put : List ℕ → List ℕ → List ℕ
+put s edit = set s (number_in edit 0 4) (get_or edit 4 0)
+
+-- n edits, one after another
 unfoldable pub edited : ℕ → List ℕ → List ℕ → List ℕ
-edited zero edits s = s
-edited (suc n) edits s = edited n (drop 5 edits) (set s (number_in edits 0 4) (get_or edits 4 0))
+edited n edits s = fold put s (first_chunks 5 n edits)
 
 -- the sequence's store before a call: where a new sequence begins, "the old store is 36,864 zeros"
 unfoldable pub store_before : Asked → List ℕ → List ℕ

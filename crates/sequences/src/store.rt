@@ -1,32 +1,27 @@
 // The stores of a sequence of calls.
-ghost use Rattle.std.specs.Prelude.{◌≡◌, ◌*◌, ◌≤◌, length, set};
+ghost use Rattle.std.specs.Prelude.{◌≡◌, ◌*◌, ◌≤◌, length};
 ghost use Rattle.usb_store.specs.Layout.{store_length};
-ghost use Rattle.sequences.specs.Stores.{resized, edited, store_before, old_store, store_after};
+ghost use Rattle.sequences.specs.Stores.{resized, put, edited, store_before, old_store, store_after};
 
-use recorded::head::{Asked, u32_at};
-use usb_store::{fill_zero, memory_copy};
-
-const EDIT_LEN: usize = 5;
+use recorded::head::{Asked, EDIT_LEN, u32_at};
 
 // Copies src into dst: cut to dst's length, or with zeros up to it.
+#[tactic(auto, unfolding(crate::specs::Stores::resized), using(crate::proofs::Stores::copied))]
 fn resize(dst: &mut [u8], src: &[u8])
     ensures { dst.new ≡ resized (length dst.old) src.now }
 {
-    fill_zero(dst);
-    let n = dst.len();
-    if src.len() <= n {
-        memory_copy(dst, 0, src);
-        return;
-    }
-    memory_copy(dst, 0, &src[..n]);
+    let n = src.len().min(dst.len());
+    dst.fill(0);
+    dst[..n].copy_from_slice(&src[..n]);
 }
 
-// Puts one byte in; an offset past the end changes nothing.
-fn put(bytes: &mut [u8], offset: usize, byte: u8)
-    ensures { bytes.new ≡ set bytes.old offset byte }
+// Puts the byte of an edit in; an offset past the end changes nothing.
+fn put(store: &mut [u8], edit: &[u8; EDIT_LEN])
+    ensures { store.new ≡ put store.old edit.now }
 {
-    if offset < bytes.len() {
-        bytes[offset] = byte;
+    let offset = u32_at(edit, 0) as usize;
+    if offset < store.len() {
+        store[offset] = edit[4];
     }
 }
 
@@ -34,35 +29,35 @@ fn edit(store: &mut [u8], edits: &[u8], n: usize)
     requires { n * 5 ≤ length edits.now }
     ensures { store.new ≡ edited n edits.now store.old }
 {
-    let mut k = 0;
-    while k < n {
-        let at = k * EDIT_LEN;
-        let offset = u32_at(edits, at);
-        put(store, offset as usize, edits[at + 4]);
-        k += 1;
+    let (chunks, _) = edits.as_chunks();
+    for chunk in &chunks[..n] {
+        put(store, chunk);
     }
 }
 
 // The sequence's store before a call.
+#[tactic(auto, unfolding(crate::specs::Stores::store_before))]
 pub fn begin(asked: Asked, store: &mut [u8])
     requires { length store.old ≡ store_length }
     ensures { store.new ≡ store_before asked store.old }
 {
     if asked.flags % 2 == 1 {
-        fill_zero(store);
+        store.fill(0);
     }
 }
 
 // A call's old store.
+#[tactic(auto, unfolding(crate::specs::Stores::old_store))]
 pub fn old_store(asked: Asked, old: &mut [u8], edits: &[u8], store: &[u8])
     requires { (length old.old ≡ asked.old_len) × (asked.edits * 5 ≤ length edits.now) }
     ensures { old.new ≡ old_store asked edits.now store.now }
 {
     resize(old, store);
-    edit(old, edits, asked.edits as usize);
+    edit(old, edits, usize::from(asked.edits));
 }
 
 // The sequence's store after a call.
+#[tactic(auto, unfolding(crate::specs::Stores::store_after))]
 pub fn carry(asked: Asked, new: &[u8], store: &mut [u8])
     requires { length store.old ≡ store_length }
     ensures { store.new ≡ store_after asked new.now store.old }

@@ -2,20 +2,17 @@
 ghost use Rattle.std.specs.Prelude.{◌≡◌};
 ghost use Rattle.sequences.specs.Sums.{adler as Sums·adler};
 
-use usb_store::wide;
-
 const MODULUS: u32 = 65521;
 
+#[tactic(auto, unfolding(crate::specs::Sums::adler), using(crate::proofs::Sums::adler_steps))]
 pub fn adler(bytes: &[u8]) -> u32
     ensures { result ≡ Sums·adler bytes.now }
 {
-    let mut a: u32 = 1;
-    let mut b: u32 = 0;
-    let mut i = 0;
-    while i < bytes.len() {
-        a = (a + wide(bytes[i])) % MODULUS;
+    let mut a = 1;
+    let mut b = 0;
+    for byte in bytes {
+        a = (a + u32::from(*byte)) % MODULUS;
         b = (b + a) % MODULUS;
-        i += 1;
     }
     b * 65536 + a
 }

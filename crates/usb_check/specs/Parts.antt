@@ -1,15 +1,11 @@
--- The lines of `hub_check_connection` that attach no device, and what the functions promise.
-use Rattle.std.specs.Prelude.{◌≡◌, Bool, false, not, ◌&&◌, ◌||◌, ℕ, eqb}
-use Rattle.usb_types.specs.declared.types.Answer.{Answer}
+-- The lines of `hub_check_connection` that attach no device.
+use Rattle.std.specs.Prelude.{Bool, not, ◌&&◌, ◌||◌, ℕ, suc, Option, None, Some, eqb}
 use Rattle.usb_store.specs.Layout.{number_field, child_field}
-use Rattle.usb_model.specs.declared.Progress.{Progress}
 use Rattle.usb_model.specs.Programs.{◌>>=◌, ◌>>◌, return, ignore, when}
 use Rattle.usb_model.specs.World.{M, get}
 use Rattle.usb_model.specs.Features.{port_connection, port_enable, port_suspend, port_over_current, c_port_connection, c_port_enable, c_port_over_current, c_port_reset, bit}
 use Rattle.usb_model.specs.Hub.{differ, clear_port_feature, hub_power_on, hub_port_get_status, port_status}
-use Rattle.usb_transfer.specs.Runs.{IfOk, Lent, Shared, DoesSo}
 use Rattle.usb_check.specs.declared.Due.{Due}
-use Rattle.usb_check.specs.declared.Found.{Found}
 
 unfoldable pub clear_if : ℕ → ℕ → ℕ → Bool → M (Unit {0})
 clear_if hub feature port due = when due (clear_port_feature hub feature port)
@@ -24,6 +20,11 @@ unfoldable pub clear_changes : ℕ → ℕ → ℕ → M (Unit {0})
 clear_changes hub port status = do
   over_current hub port status
   ignore (clear_if hub c_port_enable port (bit c_port_enable status))
+
+-- "0 none, else place + 1"
+abbrev pub child_byte : Option ℕ → ℕ
+child_byte None = 0
+child_byte (Some place) = suc place
 
 -- a connected port with a child was disabled
 unfoldable pub is_dropped : ℕ → ℕ → Bool
@@ -50,11 +51,3 @@ unfoldable pub end_check : ℕ → ℕ → ℕ → M (Unit {0})
 end_check hub port status = do
   clear_if hub port_suspend port (bit port_suspend status)
   clear_if hub c_port_reset port (bit c_port_reset status)
-
--- nothing is due where the answer is not Ok
-abbrev pub NothingDue : Answer → Due → Type 0
-NothingDue a due = IfOk a (Unit {0}) (due ≡ record { status = 0; dropped = false; changed = false })
-
-abbrev pub Finds : M Due → Lent → Lent → Shared → Progress → Found → Type 0
-Finds m store log outcomes at r =
-    DoesSo (NothingDue r.step.answer r.due) m store log outcomes at r.step r.due

@@ -1,43 +1,56 @@
 -- The port of a child, over plain values. Assumes nothing.
-use mathlib.Core.Path.{◌≡◌, ap}
-use mathlib.Core.Bool.{Bool, true, false, not, ◌&&◌}
-use mathlib.Core.List.{List}
-use Prim.Native.Nat.{ℕ, ◌+◌, ◌≤◌, ◌<◌}
-use native.Mathlib.Omega.{arith}
-use lib.Dec.{eqb, ltb}
-use borrow.Author.Tests.{eq-eqb, ne_eqb, lt-ltb, le-ltb}
-use Rattle.usb_store.specs.Layout.{port_number_field, parent_field, child_field, max_children_field}
+use Rattle.std.specs.Prelude.{◌≡◌, Bool, true, false, ◌&&◌, List, ℕ, ◌+◌, ◌<◌, ◌≤◌, eqb, ltb, Option, None, Some, Result, Ok, Err, refl}
+use Rattle.std.specs.Bool.{then_some}
+use Rattle.std.specs.Option.{ok_or}
+use Rattle.std.proofs.Common.{rules, sym}
+use Rattle.usb_types.specs.declared.types.ErrorCode.{ErrorCode}
+use Rattle.usb_types.specs.declared.types.ErrorCode.TheVariants.{Argument}
+use Rattle.usb_types.specs.declared.types.Failure.{Failure}
+use Rattle.usb_types.specs.declared.types.Failure.TheVariants.{Error}
+use Rattle.usb_store.specs.Layout.{port_number_field, parent_field, child_field, max_children_field, ports_per_hub}
 use Rattle.usb_store.specs.Access.{byte_at}
+use Rattle.usb_model.specs.Programs.{◌>>=◌, ◌>>◌, return, skip, throw, look, when}
+use Rattle.usb_model.specs.World.{get}
 use Rattle.usb_model.specs.Hub.{port_of_child}
-use Rattle.usb_transfer.proofs.Steps.{got, unless, thrown, returned}
-use Rattle.usb_child_reset.specs.declared.ChildPort.TheVariants.{At, Nowhere}
-use Rattle.usb_child_reset.specs.Finds.{Finds}
+use Rattle.usb_transfer.specs.declared.bus.UsbBus.{UsbBus}
+use Rattle.usb_transfer.specs.Runs.{world, Ready, Does}
+use Rattle.usb_transfer.proofs.Steps.{lends_still}
+use Rattle.usb_child_reset.specs.Finds.{found, Finds}
 
 module _ (hub child : ℕ) (s : List ℕ) where
   abbrev number : ℕ
   number = byte_at s child port_number_field
 
   -- what `port_of_child` tests
-  abbrev stands : Bool
+  abbrev pub stands : Bool
   stands = eqb (byte_at s child parent_field) (hub + 1) && ltb number (byte_at s hub max_children_field) && eqb (byte_at s hub (child_field number)) (child + 1)
 
-  nowhere : stands ≡ false → Finds hub child s Nowhere
-  unfolding port_of_child
-  nowhere e = record { ends = λ l o at f. got _ _ _ (got _ _ _ (got _ _ _ (got _ _ _ (thrown _ _ _ (ap not e) f)))); port = tt }
+  nowhere : stands ≡ false → Finds hub child s None
+  unfolding port_of_child get look ◌>>=◌ ◌>>◌ when skip throw return
+  nowhere e = record { is = λ w same. rw (same, e) refl; port = tt }
 
-  pub other_parent : (byte_at s child parent_field ≡ hub + 1 → ⊥) → Finds hub child s Nowhere
-  other_parent p = nowhere (simp (ne_eqb (byte_at s child parent_field) (hub + 1) p))
+  there : stands ≡ true → {port : ℕ} → port ≡ number → port < ports_per_hub → Finds hub child s (Some port)
+  unfolding port_of_child get look ◌>>=◌ ◌>>◌ when skip throw return
+  there e p l = record { is = λ w same. rw (same, e, p) refl; port = l }
 
-  module _ (p : byte_at s child parent_field ≡ hub + 1) where
-    pub no-port : byte_at s hub max_children_field ≤ number → Finds hub child s Nowhere
-    no-port q = nowhere (simp (eq-eqb _ _ p, le-ltb _ _ q))
+  in_ten : stands ≡ true → byte_at s hub max_children_field ≤ ports_per_hub → number < ports_per_hub
+  in_ten e most = search rules
 
-    module _ (q : number < byte_at s hub max_children_field) where
-      pub other_child : (byte_at s hub (child_field number) ≡ child + 1 → ⊥) → Finds hub child s Nowhere
-      other_child r = nowhere (simp (eq-eqb _ _ p, lt-ltb _ _ q, ne_eqb (byte_at s hub (child_field number)) (child + 1) r))
+  pub finds_if : {t : Bool} {port : ℕ} → t ≡ stands → port ≡ number → byte_at s hub max_children_field ≤ ports_per_hub
+      → Finds hub child s (then_some t port)
+  finds_if {t = true} e p most = there (sym e) p (rw p (in_ten (sym e) most))
+  finds_if {t = false} e p most = nowhere (sym e)
 
-      pub stands_there : byte_at s hub (child_field number) ≡ child + 1 → byte_at s hub max_children_field ≤ 10 → Finds hub child s (At number)
-      unfolding port_of_child
-      stands_there r most =
-          let is : stands ≡ true = simp (eq-eqb _ _ p, lt-ltb _ _ q, eq-eqb _ _ r) in
-          record { ends = λ l o at f. got _ _ _ (got _ _ _ (got _ _ _ (got _ _ _ (unless _ (ap not is) (returned _ f))))); port = omega arith }
+-- ---- `ok_or(ErrorCode::Argument)?`
+
+abbrev raised : Result ℕ ErrorCode → Result ℕ Failure
+raised (Ok port) = Ok port
+raised (Err error) = Err (Error error)
+
+found_is : (r : Option ℕ) → found r ≡ raised (ok_or r Argument)
+found_is None = refl
+found_is (Some port) = refl
+
+pub finds : {hub child : ℕ} {b : UsbBus} {r : Option ℕ} {x : Result ℕ ErrorCode} → Finds hub child b.store.now r → Ready b
+    → x ≡ ok_or r Argument → Does (port_of_child hub child) b b (raised x)
+finds {b = b} {r = r} p f e = rw (e, ← found_is r) (record { is = p.is (world b) refl; fit = f; lends = lends_still b })

@@ -1,68 +1,50 @@
--- The ways through the lines of `usb_configure`, over plain values. Assumes nothing.
-use mathlib.Core.Path.{◌≡◌, refl, ◌∙◌}
-use mathlib.Core.Bool.{not}
-use mathlib.Core.List.{List, [], ◌∷◌, ◌++◌}
-use Prim.Native.Nat.{ℕ, ◌+◌, ◌-◌, ◌<◌}
-use native.Mathlib.Omega.{arith}
-use lib.Dec.{eqb}
-use lib.ListN.{length, take, drop, length-take, length-drop}
-use Rattle.usb_types.specs.declared.types.ErrorCode.TheVariants.{Device}
-use Rattle.usb_types.specs.declared.types.Answer.{Answer}
-use Rattle.usb_store.specs.Layout.{place_count, store_length, status_field, configuration_index_field, total_length_field, interfaces_field}
+-- The walk over a configuration, in the store, over plain values. Assumes nothing.
+use Rattle.std.specs.Prelude.{◌≡◌, List, ℕ, ◌+◌, ◌-◌, ◌<◌, ◌++◌, length, take, drop, Result, Ok, refl}
+use Rattle.std.proofs.Common.{arith, ◌∙◌, length-take, length-drop}
+use Rattle.usb_types.specs.Answers.{Answer}
+use Rattle.usb_types.specs.declared.types.ErrorCode.{ErrorCode}
+use Rattle.usb_store.specs.Layout.{place_count, configuration_index_field, interfaces_field}
 use Rattle.usb_store.specs.Access.{offset, bytes_at, with_bytes}
-use Rattle.usb_store.specs.Values.{addressed_status}
 use Rattle.usb_store.proofs.Writes.{part_back}
-use Rattle.usb_model.specs.declared.Progress.{Progress}
-use Rattle.usb_model.specs.Programs.{◌>>=◌, ◌>>◌, throw, look, change, succeed, when}
-use Rattle.usb_model.specs.World.{World, M, get, get_bytes, get_number, put_bytes}
+use Rattle.usb_model.specs.Programs.{◌>>=◌, ◌>>◌, succeed, look, change}
+use Rattle.usb_model.specs.World.{M, get_bytes, put, put_bytes}
 use Rattle.usb_model.specs.Walk.{record_length, walk}
-use Rattle.usb_model.specs.Usbd.{usb_configure}
-use Rattle.usb_walk.specs.Steps.{ends_with}
-use Rattle.usb_transfer.specs.Runs.{here, Fit, Ends}
-use Rattle.usb_transfer.proofs.Steps.{got_bytes_as, put_then, put_bytes_then, put_bytes_fit, succeeded}
-use Rattle.usb_configure.specs.Parts.{read_head, walk_full, configure_with, configure_full}
+use Rattle.usb_walk.specs.Steps.{answer_of, ends_with}
+use Rattle.usb_transfer.specs.declared.bus.UsbBus.{UsbBus}
+use Rattle.usb_transfer.specs.Runs.{Lends, Does}
+use Rattle.usb_transfer.proofs.Steps.{next, looked, puts, succeeded}
+use Rattle.usb_configure.specs.Parts.{walk_full}
 
--- the bytes of the store from the record on, up to its end
+-- where the record starts, and the bytes of the store from there on, as the code lends them
+abbrev start : ℕ → ℕ
+start place = offset place interfaces_field
+
 abbrev span : ℕ → ℕ
-span place = offset place interfaces_field + record_length - offset place interfaces_field
+span place = start place + record_length - start place
 
 abbrev lent : List ℕ → ℕ → List ℕ
-lent s place = take (span place) (drop (offset place interfaces_field) s)
+lent s place = take (span place) (drop (start place) s)
 
-module _ (s s₁ l o : List ℕ) (at : Progress) (place configuration : ℕ) (full kept : List ℕ) (a : Answer)
-    (e₁ : s₁ ≡ with_bytes s place configuration_index_field (configuration ∷ [])) (f : Fit (here s l o at)) where
-  walked : (s₂ : List ℕ) → ends_with a kept ≡ walk full (bytes_at s₁ place interfaces_field record_length)
-      → s₂ ≡ with_bytes s₁ place interfaces_field kept → Ends (walk_full place configuration full) (here s l o at) a tt (here s₂ l o at)
-  unfolding walk_full
-  walked s₂ w e₂ =
-      put_then _ _ _ s₁ e₁
-      (got_bytes_as _ _ _ _ refl
-      (rw (← w) (put_bytes_then _ _ _ s₂ e₂ (succeeded a (put_bytes_fit _ _ _ s₂ e₂ (put_bytes_fit _ _ _ s₁ e₁ f))))))
+-- the store where the record that was lent comes back as `kept`
+abbrev back : List ℕ → ℕ → List ℕ → List ℕ
+back s place kept = take (start place) s ++ (kept ++ drop (span place) (drop (start place) s))
 
-  -- the record was lent to the walk
-  pub walked_part : place < place_count → length kept ≡ length (lent s₁ place) → ends_with a kept ≡ walk full (lent s₁ place)
-      → Ends (walk_full place configuration full) (here s l o at) a tt
-      (here (take (offset place interfaces_field) s₁ ++ (kept ++ drop (span place) (drop (offset place interfaces_field) s₁))) l o at)
-  unfolding bytes_at with_bytes
-  walked_part h long w =
-      let start : ℕ = offset place interfaces_field in
+module _ (place configuration : ℕ) (full kept : List ℕ) (result : Result (Unit {0}) ErrorCode) {b b₁ b' : UsbBus}
+    (d : Does (put place configuration_index_field configuration) b b₁ (Ok tt)) where
+  pub walked : place < place_count → length kept ≡ length (lent b₁.store.now place) → ends_with result kept ≡ walk full (lent b₁.store.now place)
+      → b'.store.now ≡ back b₁.store.now place kept → b'.log.now ≡ b₁.log.now → b'.at ≡ b₁.at → Lends b₁ b'
+      → {a : Answer} → a ≡ answer_of result → Does (walk_full place configuration full) b b' a
+  unfolding walk_full bytes_at with_bytes get_bytes
+  walked h long w s l at k e =
       let n : span place ≡ record_length = omega arith in
-      let whole : length s₁ ≡ store_length = (put_bytes_fit place configuration_index_field (configuration ∷ []) s₁ e₁ f).whole in
-      let same : length kept ≡ span place = omega (arith, length-take (span place) (drop start s₁), length-drop start s₁) in
-      walked _ (rw n at w) (part_back s₁ start (span place) kept same (omega arith))
+      let same : length kept ≡ span place = omega (arith, long, length-take (span place) (drop (start place) b₁.store.now), length-drop (start place) b₁.store.now, d.fit.whole) in
+      let p = puts place interfaces_field kept d.fit (s ∙ part_back b₁.store.now (start place) (span place) kept same (omega (arith, d.fit.whole))) l at k in
+      next _ d (looked _ _ refl (rw (← rw n at w) (next _ p (succeeded p.fit (answer_of result) e))))
 
-unfoldable pub in_parts : ℕ → ℕ → M (Unit {0})
-in_parts place configuration = do
-  status ← get place status_field
-  when (not (eqb status addressed_status)) (throw Device)
-  read_head place configuration
-  total ← get_number place total_length_field 2
-  configure_full place configuration total
-
-same_run : (place configuration : ℕ) (w : World) → usb_configure place configuration w ≡ in_parts place configuration w
-unfolding usb_configure in_parts read_head configure_full configure_with walk_full get get_number get_bytes put_bytes look change succeed ◌>>=◌ ◌>>◌
-same_run place configuration w = refl
-
-pub in-parts : (place configuration : ℕ) {w v : World} {a : Answer} → Ends (in_parts place configuration) w a tt v
-    → Ends (usb_configure place configuration) w a tt v
-in-parts place configuration r = record { is = same_run place configuration _ ∙ r.is; fit = r.fit }
+-- `usb_configure` from the walk on, written line by line
+pub regrouped : (place configuration : ℕ) (full : List ℕ) (k : M (Unit {0})) {b b' : UsbBus} {r : Answer}
+    → Does (walk_full place configuration full >> k) b b' r
+    → Does (put place configuration_index_field configuration >> (get_bytes place interfaces_field record_length >>= λ kept.
+    put_bytes place interfaces_field (walk full kept).kept >> (succeed (walk full kept).answer >> k))) b b' r
+unfolding walk_full get_bytes put_bytes look change ◌>>=◌ ◌>>◌
+regrouped place configuration full k d = record { is = d.is; fit = d.fit; lends = d.lends }

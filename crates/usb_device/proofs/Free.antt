@@ -7,14 +7,16 @@ use Prim.Native.Nat.{ℕ, zero, suc, ◌+◌, ◌≤◌, ◌<◌}
 use native.Mathlib.Nat.{zero-add}
 use native.Mathlib.Omega.{arith}
 use native.Mathlib.Decide.{ℕ_discrete, dec_lt}
-use borrow.Author.Tests.{eqb-true, eqb-false}
-use lib.Dec.{eqb}
+use borrow.Author.Tests.{eqb-true, eqb-false, lt-ltb}
+use lib.Dec.{eqb, ltb}
+use Rattle.std.specs.Prelude.{Option, Some, None, MatchOption}
+use Rattle.std.specs.Option.{unwrap_or}
 use lib.ListN.{length, get_or}
 use Rattle.usb_store.specs.Layout.{used_field}
 use Rattle.usb_store.specs.Access.{byte_at, with_bytes}
 use Rattle.usb_store.proofs.Fields.{bytes_same, byte_of_bytes}
 use Rattle.usb_store.proofs.Cells.{byte_beside, other_place}
-use Rattle.usb_device.specs.Device.{places_below, new_device, first_unused, first_unused_from, free_places}
+use Rattle.usb_device.specs.Device.{free_place, places_below, new_device, first_unused, first_unused_from, free_places}
 use Rattle.usb_device.proofs.NewDevice.{length_new}
 
 -- ---- the first
@@ -68,6 +70,35 @@ first_least s n h used = go (dec_lt (first_unused s) n)
     go : Dec (first_unused s < n) → n ≤ first_unused s
     go (yes l) = absurd (used (first_unused s) l (first-unused s (omega arith)))
     go (no l) = omega arith
+
+-- a search that tells an unused place with none before it, or that no place is unused, tells the first
+pub first_told : (s : List ℕ) (r : Option ℕ)
+    → MatchOption r ((k : ℕ) → 0 ≤ k → k < 32 → byte_at s k used_field ≢ 0)
+    (λ i. (0 ≤ i) × (i < 32) × (byte_at s i used_field ≡ 0) × ((k : ℕ) → 0 ≤ k → k < i → byte_at s k used_field ≢ 0)) → r ≡ free_place s
+first_told s None none =
+    let full : first_unused s ≡ 32 = omega (arith, first_most s, first_least s 32 (omega arith) (λ p h. none p (omega arith) h)) in
+    rw full refl
+first_told s (Some i) (_, inside, unused, rest) =
+    let least : i ≤ first_unused s = first_least s i (omega arith) (λ p h. rest p (omega arith) h) in
+    let same : first_unused s ≡ i = go (dec_lt i (first_unused s)) least in
+    rw (same, test inside) refl
+  where
+    go : Dec (i < first_unused s) → i ≤ first_unused s → first_unused s ≡ i
+    go (yes l) h = absurd (first_before s i l unused)
+    go (no l) h = omega arith
+
+    test : i < 32 → ltb i 32 ≡ true
+    test h = lt-ltb i 32 h
+
+-- the place, or 32 where there is none
+pub free_or : (s : List ℕ) {r : Option ℕ} {n : ℕ} → r ≡ free_place s → n ≡ unwrap_or r 32 → n ≡ first_unused s
+free_or s {r} {n} e f = f ∙ ap (λ (o : Option ℕ). unwrap_or o 32) e ∙ go (dec_lt (first_unused s) 32)
+  where
+    go : Dec (first_unused s < 32) → unwrap_or (free_place s) 32 ≡ first_unused s
+    go (yes l) = rw (lt-ltb (first_unused s) 32 l) refl
+    go (no l) =
+        let full : first_unused s ≡ 32 = omega (arith, first_most s) in
+        rw full refl
 
 -- ---- how many
 

@@ -1,13 +1,14 @@
 -- The record of a hub's ten ports: each value by its port, and loading what was stored gives it back. Assumes nothing.
-use mathlib.Core.Path.{◌≡◌, refl, sym, ap, ◌∙◌}
+use mathlib.Core.Path.{◌≡◌, refl, sym, ap, ◌∙◌, subst}
 use mathlib.Core.Logic.{inr}
 use mathlib.Core.List.{List, [], ◌∷◌}
 use Prim.Native.Nat.{ℕ, zero, suc, ◌+◌, ◌≤◌, ◌<◌, ◌^◌}
-use native.Mathlib.Nat.{add-zero}
-use native.Mathlib.Decide.{ℕ_discrete}
+use native.Mathlib.Nat.{add-zero, zero-add}
 use native.Mathlib.Omega.{arith}
-use lib.ListN.{length, get_or, set, length-set}
-use lib.Seq.{ext_get_or, get_or-set_same, get_or-set_other}
+use lib.ListN.{length, get_or}
+use lib.Seq.{ext_get_or}
+use denote.Param.Members.{Mut, Called}
+use Rattle.std.specs.Array.{IsFromFnResult, IsFromFnResultFrom}
 use Rattle.usb_types.specs.Numbers.{little_endian}
 use Rattle.usb_store.specs.Layout.{port_status_field, children_field, child_field, max_children_field}
 use Rattle.usb_store.specs.Access.{Within, byte_at, number_at, with_bytes, with_number}
@@ -30,24 +31,18 @@ ten_at f port h = let zero-first : 0 + port ≡ port = omega arith in ports_at 1
 ten_is : (f : ℕ → ℕ) (vs : List ℕ) → length vs ≡ 10 → ((port : ℕ) → port < 10 → f port ≡ get_or vs port 0) → ten_ports f ≡ vs
 ten_is f vs long same = ext_get_or 0 (ten_ports f) vs (sym long) (λ port h. ten_at f port h ∙ same port h)
 
--- ten values, of which the first n are those of f
-pub record Filled (f : ℕ → ℕ) (vs : List ℕ) (n : ℕ) : Type 0 where
-  pub long : length vs ≡ 10
-  pub first : (port : ℕ) → port < n → get_or vs port 0 ≡ f port
+-- what calls of a closure made that changes nothing and gives f of each port
+module _ {F : Type 0} {g : Mut F (ℕ × Unit {0}) ℕ} {q : F} (f : ℕ → ℕ) (vs : List ℕ)
+    (gives : (port y : ℕ) (r : F) → Called g q (port, tt) y r → (r ≡ q) × (y ≡ f port)) where
+  made_from : (n port k : ℕ) → k < n → IsFromFnResultFrom g q vs port n → get_or vs (port + k) 0 ≡ f (port + k)
+  made_from zero port k h made = absurd (omega arith)
+  made_from (suc n) port zero h (r, y, is, called, rest) = rw add-zero (is.1 0 ∙ (gives port y r called).1)
+  made_from (suc n) port (suc k) h (r, y, is, called, rest) =
+      let next : port + suc k ≡ port + 1 + k = omega arith in
+      rw next (made_from n (port + 1) k (omega arith) (subst (λ s. IsFromFnResultFrom g s vs (port + 1) n) (gives port y r called).0 rest))
 
-pub filled_none : {f : ℕ → ℕ} (vs : List ℕ) → length vs ≡ 10 → Filled f vs 0
-filled_none vs long = record { long = long; first = λ port h. absurd (omega arith) }
-
-pub filled_more : {f : ℕ → ℕ} {vs : List ℕ} {n : ℕ} (v : ℕ) → n < 10 → v ≡ f n → Filled f vs n → Filled f (set vs n v) (n + 1)
-filled_more {f} {vs} {n} v l e filled =
-    record { long = length-set vs n v ∙ filled.long; first = λ port h. go port h (ℕ_discrete port n) }
-  where
-    go : (port : ℕ) → port < n + 1 → Dec (port ≡ n) → get_or (set vs n v) port 0 ≡ f port
-    go port h (yes same) = rw same (get_or-set_same vs n v 0 (omega (arith, filled.long)) ∙ e)
-    go port h (no other) = get_or-set_other vs n port v 0 other ∙ filled.first port (omega arith)
-
-pub filled_all : {f : ℕ → ℕ} {vs : List ℕ} {n : ℕ} → 10 ≤ n → Filled f vs n → ten_ports f ≡ vs
-filled_all {f} {vs} all filled = ten_is f vs filled.long (λ port h. sym (filled.first port (omega arith)))
+  pub made : IsFromFnResult g q vs 10 → ten_ports f ≡ vs
+  made all = ten_is f vs all.long (λ port h. sym (rw zero-add at (made_from 10 0 port h all.each)))
 
 -- the status and the child of a port, as the code reads them
 pub status_at : (s : List ℕ) (place port : ℕ) → port < 10

@@ -54,10 +54,6 @@ module _ (place : ℕ) {zeros interfaces : List ℕ} (e : zeros ≡ replicate 11
   first_marks : interfaces ≡ marked (singles place (replicate 1152 0)) 129 9 8
   first_marks = f ∙ ap (λ (l : List ℕ). marked (singles place l) 129 9 8) e
 
-  pub length_first : length interfaces ≡ 1152
-  unfolding marked
-  length_first = ap length first_marks
-
   pub built : {all : List ℕ} → all ≡ marked interfaces 201 7 128 → all ≡ new_device place
   unfolding new_device marked
   built g = g ∙ ap (λ (l : List ℕ). marked l 201 7 128) first_marks

@@ -1,21 +1,18 @@
 -- One turn of each loop: what is left to do before it is the turn and what is left after it. Assumes nothing.
-use mathlib.Core.Path.{◌≡◌, ap, ◌∙◌}
-use mathlib.Core.Bool.{Bool, cond}
+use mathlib.Core.Path.{◌≡◌}
 use mathlib.Core.List.{List}
 use Prim.Native.Nat.{ℕ, suc, ◌+◌, ◌*◌, ◌-◌, ◌≤◌, ◌<◌}
 use native.Mathlib.Nat.{suc-mul}
 use native.Mathlib.Numerals.{add-one}
 use native.Mathlib.Omega.{arith}
-use borrow.Author.Tests.{eq-eqb, ne_eqb}
-use lib.Dec.{eqb}
 use lib.ListN.{length, get_or, drop, set, drop_of_length-le}
 use lib.Seq.{drop-cons}
-use Rattle.usb_store.specs.Layout.{port_status_field, used_field}
-use Rattle.usb_store.specs.Access.{byte_at, with_number}
+use Rattle.usb_store.specs.Layout.{port_status_field}
+use Rattle.usb_store.specs.Access.{with_number}
 use Rattle.usb_device.specs.Ports.{with_statuses}
-use Rattle.usb_device.specs.Device.{marked, first_unused_from}
+use Rattle.usb_device.specs.Device.{marked}
 
--- store_statuses
+-- store_hub
 pub statuses_turn : (s : List ℕ) (place : ℕ) (vs : List ℕ) (port : ℕ) → port < length vs
     → with_statuses s place port (drop port vs) ≡ with_statuses (with_number s place (port_status_field port) 4 (get_or vs port 0)) place (port + 1) (drop (port + 1) vs)
 unfolding with_statuses
@@ -37,21 +34,3 @@ mark_turn bytes first step n i h =
 pub mark_end : (bytes : List ℕ) (at step n i : ℕ) → n ≤ i → marked bytes at step (n - i) ≡ bytes
 unfolding marked
 mark_end bytes at step n i h = let none : n - i ≡ 0 = omega arith in rw none
-
--- first_unused
-module _ (s : List ℕ) (place : ℕ) (h : place < 32) where
-  turn : first_unused_from s (32 - place) place ≡ cond (eqb (byte_at s place used_field) 0) place (first_unused_from s (32 - (place + 1)) (place + 1))
-  unfolding first_unused_from
-  turn = let left : 32 - place ≡ suc (32 - (place + 1)) = omega arith in rw left
-
-  pub unused_found : byte_at s place used_field ≡ 0 → first_unused_from s (32 - place) place ≡ place
-  unused_found e =
-      turn ∙ ap (λ (b : Bool). cond b place (first_unused_from s (32 - (place + 1)) (place + 1))) (eq-eqb (byte_at s place used_field) 0 e)
-
-  pub unused_next : (byte_at s place used_field ≡ 0 → ⊥) → first_unused_from s (32 - place) place ≡ first_unused_from s (32 - (place + 1)) (place + 1)
-  unused_next e =
-      turn ∙ ap (λ (b : Bool). cond b place (first_unused_from s (32 - (place + 1)) (place + 1))) (ne_eqb (byte_at s place used_field) 0 e)
-
-pub unused_end : (s : List ℕ) (place : ℕ) → place ≡ 32 → first_unused_from s (32 - place) place ≡ 32
-unfolding first_unused_from
-unused_end s place e = rw e

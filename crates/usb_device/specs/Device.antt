@@ -1,6 +1,6 @@
 -- A new device, and the places that are not used (document 01, "a new place holds `UsbDevice::new` as `UsbAllocateDevice`
 -- amends it"; usbd/device.rs).
-use Rattle.std.specs.Prelude.{Bool, cond, List, [], ◌∷◌, ◌++◌, ℕ, zero, suc, ◌+◌, ◌-◌, eqb, replicate, set}
+use Rattle.std.specs.Prelude.{Option, Bool, cond, List, [], ◌∷◌, ◌++◌, ℕ, zero, suc, ◌+◌, ◌-◌, eqb, ltb, if◌then◌else◌, Some, None, replicate, set}
 use Rattle.usb_store.specs.Layout.{used_field, place_count}
 use Rattle.usb_store.specs.Access.{byte_at}
 use Rattle.usb_store.specs.Values.{full_speed, attached_status}
@@ -33,6 +33,10 @@ first_unused_from s (suc n) p = cond (eqb (byte_at s p used_field) 0) p (first_u
 -- the first place that is not used, or 32 where the bus is full
 abbrev pub first_unused : List ℕ → ℕ
 first_unused s = first_unused_from s place_count 0
+
+-- the first place that is not used, if there is one
+abbrev pub free_place : List ℕ → Option ℕ
+free_place s = if ltb (first_unused s) place_count then Some (first_unused s) else None
 
 -- how many of the first n places pass a test
 unfoldable pub places_below : (ℕ → Bool) → ℕ → ℕ

@@ -1,2 +1,3 @@
 pub mod Ports
 pub mod Device
+pub mod Speeds

@@ -1,54 +1,58 @@
 // device.rs: a new device, and the first place that is not used.
-ghost use Rattle.std.specs.Prelude.{◌≡◌, ◌+◌, ◌*◌, ◌≤◌, ◌<◌, length};
+ghost use Rattle.std.specs.Prelude.{◌≡◌, ◌+◌, ◌*◌, ◌≤◌, ◌<◌, length, IfSome};
 ghost use Rattle.usb_store.specs.Layout.{place_count, place_length, store_length};
 ghost use Rattle.usb_store.specs.Access.{with_bytes};
-ghost use Rattle.usb_device.specs.Device.{first_unused, new_device, marked};
+ghost use Rattle.usb_device.specs.Device.{free_place, new_device, marked};
+ghost use Rattle.usb_device.specs.Speeds.{speed_number};
 
 use usb_store::{
     CONFIGURATION_INDEX, CONFIGURATION_TYPE, DEVICE_CLASS, DEVICE_TYPE, ENDPOINT_TYPE,
-    INTERFACE_TYPE, MAX_PACKET_SIZE0, NUMBER, PLACE_LEN, PLACES, SPEED, USED, byte_at, fill_zero,
+    INTERFACE_TYPE, MAX_PACKET_SIZE0, NUMBER, PLACE_LEN, PLACES, SPEED, USED, byte_at,
 };
 
-// UsbSpeed.
-pub const HIGH: u8 = 0;
+// As a place's speed byte holds it.
+#[derive(Clone, Copy, PartialEq, Eq, Debug)]
+pub enum UsbSpeed {
+    High = 0,
+    Full = 1,
+    Low = 2,
+}
 
-pub const FULL: u8 = 1;
+impl From<UsbSpeed> for u8 {
+    ghost from_gives = { λ s r. r ≡ speed_number s };
 
-pub const LOW: u8 = 2;
-
-// UsbDeviceStatus. A new device is attached: 0.
-pub const POWERED: u8 = 1;
-
-pub const DEFAULT: u8 = 2;
-
-pub const ADDRESSED: u8 = 3;
-
-pub const CONFIGURED: u8 = 4;
-
-// The first place that is not used, or 32.
-pub fn first_unused(store: &[u8]) -> usize
-    requires { length store.now ≡ store_length }
-    ensures { (result ≡ first_unused store.now) × (result ≤ place_count) }
-{
-    let mut place = 0;
-    while place < PLACES {
-        if byte_at(store, place, USED) == 0 {
-            return place;
-        }
-        place += 1;
+    fn from(speed: UsbSpeed) -> u8 {
+        speed as u8
     }
-    PLACES
+}
+
+// USB 2.0 9.1, as a place's status byte holds it. A new device is attached.
+#[derive(Clone, Copy, PartialEq, Eq, Debug)]
+pub enum UsbDeviceStatus {
+    Attached = 0,
+    Powered = 1,
+    Default = 2,
+    Addressed = 3,
+    Configured = 4,
+}
+
+// The first place that is not used.
+pub fn first_unused(store: &[u8]) -> Option<usize>
+    requires { length store.now ≡ store_length }
+    ensures place { result ≡ free_place store.now }
+    ensures within { IfSome result (λ place. place < place_count) }
+{
+    (0..PLACES).find(|&place| byte_at(store, place, USED) == 0)
 }
 
 // Sets n bytes to 1, one every step bytes from first on: the types of n descriptors.
+#[tactic(auto, using(crate::proofs::Turns::mark_turn, crate::proofs::Turns::mark_end))]
 fn mark(bytes: &mut [u8], first: usize, step: usize, n: usize)
     requires { (first + n * step < length bytes.old) × (n ≤ 128) × (step < 16) }
     ensures { bytes.new ≡ marked bytes.old first step n }
 {
-    let mut i = 0;
-    while i < n {
+    for i in 0..n {
         bytes[first + i * step] = 1;
-        i += 1;
     }
 }
 
@@ -57,10 +61,10 @@ fn new_device(bytes: &mut [u8], place: usize)
     requires { (length bytes.old ≡ place_length) × (place < place_count) }
     ensures { bytes.new ≡ new_device place }
 {
-    fill_zero(bytes);
+    bytes.fill(0);
     bytes[USED] = 1;
     bytes[NUMBER] = (place + 1) as u8;
-    bytes[SPEED] = FULL;
+    bytes[SPEED] = UsbSpeed::Full as u8;
     bytes[CONFIGURATION_INDEX] = 255;
     // The types and the class are those of Default: 1 (device) and 9 (hub).
     bytes[DEVICE_TYPE] = 1;
@@ -71,11 +75,11 @@ fn new_device(bytes: &mut [u8], place: usize)
     mark(bytes, ENDPOINT_TYPE, 7, 128);
 }
 
+#[tactic(auto, unfolding(usb_store::specs::Access::with_bytes), using(crate::proofs::NewDevice::put_new))]
 pub fn put_new_device(store: &mut [u8], place: usize)
     requires { (length store.old ≡ store_length) × (place < place_count) }
     ensures { store.new ≡ with_bytes store.old place 0 (new_device place) }
 {
     let start = place * PLACE_LEN;
-    let end = start + PLACE_LEN;
-    new_device(&mut store[start..end], place);
+    new_device(&mut store[start..start + PLACE_LEN], place);
 }

@@ -5,11 +5,9 @@ use mathlib.Core.List.{List, [], ◌∷◌}
 use Prim.Native.Nat.{ℕ, ◌+◌, ◌≤◌, ◌<◌}
 use native.Mathlib.Omega.{arith}
 use Rattle.usb_store.specs.Layout.{speed_field, status_field}
-use Rattle.usb_store.specs.Access.{with_bytes}
 use Rattle.usb_store.specs.Values.{powered_status}
 use Rattle.usb_device.specs.Device.{first_unused, free_places}
 use Rattle.usb_model.specs.Programs.{Ran, done, fail, halt, on, ◌>>=◌, ◌>>◌, return, end_of}
-use Rattle.usb_model.specs.declared.Progress.{Progress}
 use Rattle.usb_model.specs.World.{World, M, put}
 use Rattle.usb_model.specs.Usbd.{usb_allocate_device}
 use Rattle.usb_model.specs.Kept.{Good}
@@ -19,11 +17,12 @@ use Rattle.usb_model.proofs.Ways.{is_done, Allocates, bus_full, allocated, alloc
 use Rattle.usb_model.proofs.Walks.{Reach, Walks, reach_here}
 use Rattle.usb_model.proofs.Primitives.{puts}
 use Rattle.usb_model.proofs.Functions.{small}
-use Rattle.usb_types.specs.declared.types.Answer.TheVariants.{Ok}
-use Rattle.usb_transfer.specs.Runs.{here, Ends}
-use Rattle.usb_transfer.proofs.Steps.{put_then, put_last, put_bytes_fit}
+use Rattle.std.specs.Prelude.{Ok}
+use Rattle.usb_transfer.specs.declared.bus.UsbBus.{UsbBus}
+use Rattle.usb_transfer.specs.Runs.{world, Does}
+use Rattle.usb_transfer.proofs.Steps.{next as then}
 use Rattle.usb_child.specs.Parts.{new_child}
-use Rattle.usb_driver.specs.Bus.{Bus}
+use Rattle.usb_driver.specs.Bus.{Bus, OnBus}
 use Rattle.usb_driver.proofs.Reaches.{reached, at_place}
 use Rattle.usb_driver.proofs.Goes.{resets, places}
 
@@ -82,11 +81,14 @@ pub record Born (w : World) (place : ℕ) (v : World) : Type 0 where
   pub bus : Bus place v
   pub free : free_places v.store < free_places w.store
 
-pub born : (hub port place : ℕ) {w v : World} → Bus hub w → port < 10 → Ends (new_child hub port) w Ok place v → Born w place v
+pub born : (hub port place : ℕ) {b b₁ : UsbBus} → OnBus hub b → port < 10 → Does (new_child hub port) b b₁ (Ok place)
+    → Born (world b) place (world b₁)
 unfolding new_child return
-born hub port place {w} {v} b l e =
-    let reset = parts_next _ _ w place v e.is in
-    let here : Reach w (hub + 1) reset.middle = walked_to (resets hub port l) (at_place b) reset.first in
+born hub port place {b} {b₁} on l d =
+    let w = world b in
+    let v = world b₁ in
+    let reset = parts_next _ _ w place v d.is in
+    let here : Reach w (hub + 1) reset.middle = walked_to (resets hub port l) (at_place on) reset.first in
     let taken = parts _ _ reset.middle place v reset.last in
     let new = allocated_at reset.middle taken.value taken.middle here.good taken.first in
     let put = parts_next _ _ taken.middle place v taken.last in
@@ -97,24 +99,20 @@ born hub port place {w} {v} b l e =
     let end : put.middle ≡ v = ap end_of put.last in
     let reached : Reach taken.middle (taken.value + 1) v = subst (Reach taken.middle (taken.value + 1)) end there in
     record {
-      bus = record { fit = e.fit; good = reached.good; used = omega (arith, reached.used, same); inside = omega (arith, new.inside, same) };
+      bus = record { fit = d.fit; good = reached.good; used = omega (arith, reached.used, same); inside = omega (arith, new.inside, same) };
       free = omega (arith, reached.onward.free, new.free, here.onward.free);
     }
 
 -- the root hub: a place is taken, and it has its speed and its power
-pub root_born : (place speed : ℕ) (s s₁ s₂ : List ℕ) {w : World} {l o : List ℕ} {at : Progress}
-    → Good w → speed < 256 → Ends usb_allocate_device w Ok place (here s l o at)
-    → s₁ ≡ with_bytes s place speed_field (speed ∷ []) → s₂ ≡ with_bytes s₁ place status_field (powered_status ∷ []) → Born w place (here s₂ l o at)
-root_born place speed s s₁ s₂ {w} {l} {o} {at} g low e e₁ e₂ =
-    let new = allocated_at w place (here s l o at) g e.is in
-    let fit = put_bytes_fit place speed_field (speed ∷ []) s₁ e₁ e.fit in
-    let end = put_then {l = l} {o = o} {at = at} place speed_field speed s₁ e₁ (put_last place status_field powered_status s₂ e₂ fit) in
-    let v = here s l o at in
-    let walk : Walks v (place + 1) (put place speed_field speed >> put place status_field powered_status) Any =
+pub root_born : (place speed : ℕ) {b b₁ b₂ b₃ : UsbBus} → Good (world b) → speed < 256 → Does usb_allocate_device b b₁ (Ok place)
+    → Does (put place speed_field speed) b₁ b₂ (Ok tt) → Does (put place status_field powered_status) b₂ b₃ (Ok tt) → Born (world b) place (world b₃)
+root_born place speed {b} {b₁} {b₂} {b₃} g low d d₁ d₂ =
+    let new = allocated_at (world b) place (world b₁) g d.is in
+    let walk : Walks (world b₁) (place + 1) (put place speed_field speed >> put place status_field powered_status) Any =
     next (puts place speed_field speed (small speed_field (omega arith) (omega arith)) low)
     (puts place status_field powered_status (small status_field (omega arith) (omega arith)) (omega arith)) in
-    let r : Reach v (place + 1) (here s₂ l o at) = reached (walk.run v (reach_here v new.good new.used)) end in
+    let r : Reach (world b₁) (place + 1) (world b₃) = reached (walk.run (world b₁) (reach_here (world b₁) new.good new.used)) (then _ d₁ d₂) in
     record {
-      bus = record { fit = end.fit; good = r.good; used = omega (arith, r.used); inside = new.inside };
+      bus = record { fit = d₂.fit; good = r.good; used = omega (arith, r.used); inside = new.inside };
       free = omega (arith, r.onward.free, new.free);
     }

@@ -13,118 +13,54 @@ use usb_check::{end_check, start_check};
 use usb_child::new_child;
 use usb_hub::requests::ignore;
 use usb_hub_attach::ready_hub;
-use usb_model::Progress;
-use usb_store::{MAX_CHILDREN, byte_at};
-use usb_transfer::log::{Step, ok};
-use usb_types::types::{Answer, wide};
+use usb_store::MAX_CHILDREN;
+use usb_transfer::bus::UsbBus;
+use usb_types::types::Failure;
 
 #[cycle(attach)]
-pub fn hub_attach(
-    store: &mut [u8],
-    log: &mut [u8],
-    outcomes: &[u8],
-    at: Progress,
-    hub: usize,
-) -> Step
-    requires { OnBus hub store log outcomes at }
-    ensures { (n : ℕ) → free_places store.old ≤ n → Does (Model.hub_attach (attach_below n) hub) store log outcomes at result }
+pub fn hub_attach(bus: &mut UsbBus, hub: usize) -> Result<(), Failure>
+    requires { OnBus hub bus.old }
+    ensures { (n : ℕ) → free_places bus.old.store.now ≤ n → Does (Model.hub_attach (attach_below n) hub) bus.old bus.new result }
 {
-    let ready = ready_hub(store, log, outcomes, at, hub);
-    let answer = ready.answer;
-    let Answer::Ok = answer else {
-        return ready;
-    };
-    let mut progress = ready.at;
-    let count = wide(byte_at(store, hub, MAX_CHILDREN));
-    let mut port = 0;
-    while port < count {
-        let step = ignore(hub_check_connection(store, log, outcomes, progress, hub, port));
-        let answer = step.answer;
-        let Answer::Ok = answer else {
-            return step;
-        };
-        progress = step.at;
-        port += 1;
+    ready_hub(bus, hub)?;
+    let count = bus.byte_at(hub, MAX_CHILDREN) as usize;
+    for port in 0..count {
+        ignore(hub_check_connection(bus, hub, port))?;
     }
-    ok(progress)
+    Ok(())
 }
 
 #[cycle(attach)]
-pub fn hub_check_connection(
-    store: &mut [u8],
-    log: &mut [u8],
-    outcomes: &[u8],
-    at: Progress,
-    hub: usize,
-    port: usize,
-) -> Step
-    requires { OnBus hub store log outcomes at × (port < ports_per_hub) }
-    ensures { (n : ℕ) → free_places store.old ≤ n
-        → Does (Model.hub_check_connection (attach_below n) hub port) store log outcomes at result }
+pub fn hub_check_connection(bus: &mut UsbBus, hub: usize, port: usize) -> Result<(), Failure>
+    requires { OnBus hub bus.old × (port < ports_per_hub) }
+    ensures { (n : ℕ) → free_places bus.old.store.now ≤ n
+        → Does (Model.hub_check_connection (attach_below n) hub port) bus.old bus.new result }
 {
-    let found = start_check(store, log, outcomes, at, hub, port);
-    let started = found.step;
-    let due = found.due;
-    let answer = started.answer;
-    let Answer::Ok = answer else {
-        return started;
-    };
-    let next = started.at;
-    let first = change_if(store, log, outcomes, next, hub, port, due.dropped);
-    let answer = first.answer;
-    let Answer::Ok = answer else {
-        return first;
-    };
-    let then = first.at;
-    let second = change_if(store, log, outcomes, then, hub, port, due.changed);
-    let answer = second.answer;
-    let Answer::Ok = answer else {
-        return second;
-    };
-    let last = second.at;
-    end_check(store, log, outcomes, last, hub, port, due.status)
+    let due = start_check(bus, hub, port)?;
+    change_if(bus, hub, port, due.dropped)?;
+    change_if(bus, hub, port, due.changed)?;
+    end_check(bus, hub, port, due.status)
 }
 
 // A connection change that is due; of its result only a stop counts.
 #[cycle(attach)]
-fn change_if(
-    store: &mut [u8],
-    log: &mut [u8],
-    outcomes: &[u8],
-    at: Progress,
-    hub: usize,
-    port: usize,
-    due: bool,
-) -> Step
-    requires { OnBus hub store log outcomes at × (port < ports_per_hub) }
-    ensures { (n : ℕ) → free_places store.old ≤ n
-        → Does (when due (ignore (Model.hub_port_connection_changed (attach_below n) hub port))) store log outcomes at result }
+fn change_if(bus: &mut UsbBus, hub: usize, port: usize, due: bool) -> Result<(), Failure>
+    requires { OnBus hub bus.old × (port < ports_per_hub) }
+    ensures { (n : ℕ) → free_places bus.old.store.now ≤ n
+        → Does (when due (ignore (Model.hub_port_connection_changed (attach_below n) hub port))) bus.old bus.new result }
 {
     if due {
-        return ignore(hub_port_connection_changed(store, log, outcomes, at, hub, port));
+        return ignore(hub_port_connection_changed(bus, hub, port));
     }
-    ok(at)
+    Ok(())
 }
 
 #[cycle(attach)]
-pub fn hub_port_connection_changed(
-    store: &mut [u8],
-    log: &mut [u8],
-    outcomes: &[u8],
-    at: Progress,
-    hub: usize,
-    port: usize,
-) -> Step
-    requires { OnBus hub store log outcomes at × (port < ports_per_hub) }
-    ensures { (n : ℕ) → free_places store.old ≤ n
-        → Does (Model.hub_port_connection_changed (attach_below n) hub port) store log outcomes at result }
+pub fn hub_port_connection_changed(bus: &mut UsbBus, hub: usize, port: usize) -> Result<(), Failure>
+    requires { OnBus hub bus.old × (port < ports_per_hub) }
+    ensures { (n : ℕ) → free_places bus.old.store.now ≤ n
+        → Does (Model.hub_port_connection_changed (attach_below n) hub port) bus.old bus.new result }
 {
-    let born = new_child(store, log, outcomes, at, hub, port);
-    let step = born.step;
-    let answer = step.answer;
-    let Answer::Ok = answer else {
-        return step;
-    };
-    let next = step.at;
-    usb_attach_device(store, log, outcomes, next, born.place)
+    let place = new_child(bus, hub, port)?;
+    usb_attach_device(bus, place)
 }

@@ -1,14 +1,10 @@
 -- What a call is lent, hands back and leaves, as the model's entry points have it.
-use Rattle.std.specs.Prelude.{◌≡◌, Bool, List, ℕ, ℤ, length}
-use Rattle.usb_types.specs.Answers.{answer_number, refusal_number}
+use Rattle.std.specs.Prelude.{◌≡◌, Bool, List, ℕ, ℤ, length, Result, Ok, Err}
+use Rattle.usb_types.specs.Answers.{Answer, answer_number, refusal_number}
 use Rattle.usb_types.specs.declared.types.Refusal.{Refusal}
-use Rattle.usb_model.specs.declared.Progress.{Progress}
 use Rattle.usb_model.specs.Entry as Model
 use Rattle.usb_model.specs.Entry.{Lent, Left, WalkLeft}
-use Rattle.usb_transfer.specs.declared.log.Step.{Step}
 use Rattle.usb_entry.specs.declared.reply.Reply.{Reply}
-use Rattle.usb_entry.specs.declared.verdict.Verdict.{Verdict}
-use Rattle.usb_entry.specs.declared.verdict.Verdict.TheVariants.{Accepted, Refused}
 
 -- the slices of a call, in the order of its parameters
 abbrev pub lent : List ℕ → List ℕ → List ℕ → List ℕ → Lent
@@ -27,17 +23,14 @@ walk_left answer kept = record { answer = answer; kept = kept }
 abbrev pub refusal_reply : Refusal → Reply
 refusal_reply refusal = record { answer = refusal_number refusal; requests = 0 }
 
-abbrev pub step_reply : Step → Reply
-step_reply step = record { answer = answer_number step.answer; requests = step.at.requests }
-
-abbrev pub nothing_done : Progress
-nothing_done = record { logged = 0; taken = 0; requests = 0 }
+abbrev pub answer_reply : Answer → ℕ → Reply
+answer_reply answer requests = record { answer = answer_number answer; requests = requests }
 
 -- ---- verdicts
 
-abbrev pub told : Verdict → Model.Verdict
-told Accepted = Model.accepted
-told (Refused r) = Model.refused r
+abbrev pub told : Result (Unit {0}) Refusal → Model.Verdict
+told (Ok _) = Model.accepted
+told (Err r) = Model.refused r
 
 -- a test of a call that lends the old store, whatever else it lends
 abbrev pub Tests : (Lent → Bool) → List ℕ → Bool → Type 0

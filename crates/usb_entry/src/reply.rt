@@ -1,12 +1,10 @@
 // What a call hands back.
 ghost use Rattle.std.specs.Prelude.{◌≡◌};
-ghost use Rattle.usb_entry.specs.Replies.{refusal_reply, step_reply, nothing_done};
+ghost use Rattle.usb_entry.specs.Replies.{refusal_reply, answer_reply};
 
-use usb_model::Progress;
-use usb_transfer::log::Step;
-use usb_types::types::{Refusal, answer_number, refusal_number};
+use usb_types::types::{Failure, Refusal, answer_number};
 
-// The answer by document 01's table, and how many requests were logged.
+// The answer by document 01's table, and how many requests were logged. Numbers, and no Result: it is what the C interface hands back.
 #[repr(C)]
 #[derive(Clone, Copy)]
 pub struct Reply {
@@ -19,29 +17,16 @@ pub fn refuse(refusal: Refusal) -> Reply
     ensures { result ≡ refusal_reply refusal }
 {
     Reply {
-        answer: refusal_number(refusal),
+        answer: i32::from(refusal),
         requests: 0,
     }
 }
 
-// Where a call starts.
-pub fn begin() -> Progress
-    ensures { result ≡ nothing_done }
+pub fn report(answer: Result<(), Failure>, requests: usize) -> Reply
+    ensures { result ≡ answer_reply answer requests }
 {
-    Progress {
-        logged: 0,
-        taken: 0,
-        requests: 0,
-    }
-}
-
-pub fn report(step: Step) -> Reply
-    ensures { result ≡ step_reply step }
-{
-    let answer = step.answer;
-    let at = step.at;
     Reply {
         answer: answer_number(answer),
-        requests: at.requests as u64,
+        requests: requests as u64,
     }
 }

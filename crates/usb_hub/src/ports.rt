@@ -2,12 +2,14 @@
 ghost use Rattle.std.specs.Prelude.{◌≡◌, ◌/◌, ◌%◌, ◌<◌, eqb, length, get_or};
 ghost use Rattle.usb_store.specs.Layout.{place_count, store_length, port_status_field, child_field, ports_per_hub};
 ghost use Rattle.usb_store.specs.Access.{byte_at, number_at};
+ghost use Rattle.usb_device.specs.Speeds.{speed_number};
 ghost use Rattle.usb_model.specs.Hub.{speed_of};
+ghost use Rattle.usb_hub.specs.Parts.{place_of};
 
-use usb_device::device::{FULL, HIGH, LOW};
+use usb_device::device::UsbSpeed;
 use usb_device::hub::{HubDevice, load_hub};
 
-// Bits of wPortStatus, USB 2.0 table 11-21.
+// Bits of wPortStatus, USB 2.0 table 11-21. Numbers: several are set at once, so they are not the cases of an enum.
 pub const PORT_CONNECTION: u32 = 0x1;
 
 pub const PORT_ENABLE: u32 = 0x2;
@@ -36,16 +38,16 @@ pub fn has(status: u32, weight: u32) -> bool
 }
 
 // Low speed is tested first.
-pub fn speed_of(status: u32) -> u8
-    ensures { result ≡ speed_of status }
+pub fn speed_of(status: u32) -> UsbSpeed
+    ensures { speed_number result ≡ speed_of status }
 {
     if has(status, PORT_LOW_SPEED) {
-        return LOW;
+        return UsbSpeed::Low;
     }
     if has(status, PORT_HIGH_SPEED) {
-        return HIGH;
+        return UsbSpeed::High;
     }
-    FULL
+    UsbSpeed::Full
 }
 
 pub fn status_of(hub: HubDevice, port: usize) -> u32
@@ -56,13 +58,16 @@ pub fn status_of(hub: HubDevice, port: usize) -> u32
     statuses[port]
 }
 
-// 0 none, else place + 1.
-pub fn child_of(hub: HubDevice, port: usize) -> u8
+// The place of a port's child.
+pub fn child_of(hub: HubDevice, port: usize) -> Option<usize>
     requires { port < ports_per_hub }
-    ensures { result ≡ get_or hub.children port 0 }
+    ensures { result ≡ place_of (get_or hub.children port 0) }
 {
     let children = hub.children;
-    children[port]
+    match children[port] {
+        0 => None,
+        child => Some(child as usize - 1),
+    }
 }
 
 // The stored status of a port of the hub at a place.
@@ -73,10 +78,10 @@ pub fn port_status(store: &[u8], hub: usize, port: usize) -> u32
     status_of(load_hub(store, hub), port)
 }
 
-// The child of a port of the hub at a place: 0 none, else place + 1.
-pub fn port_child(store: &[u8], hub: usize, port: usize) -> u8
+// The place of the child at a port of the hub at a place.
+pub fn port_child(store: &[u8], hub: usize, port: usize) -> Option<usize>
     requires { (length store.now ≡ store_length) × (hub < place_count) × (port < ports_per_hub) }
-    ensures { result ≡ byte_at store.now hub (child_field port) }
+    ensures { result ≡ place_of (byte_at store.now hub (child_field port)) }
 {
     child_of(load_hub(store, hub), port)
 }

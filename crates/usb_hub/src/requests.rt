@@ -6,15 +6,15 @@ ghost use Rattle.usb_transfer.specs.Runs.{Ready, Does};
 ghost use Rattle.usb_hub.specs.Parts.{ignored, feature_request, power_delay, power_ports};
 
 use usb_message::{control, read};
-use usb_model::{Buffer, Progress};
-use usb_store::{HUB_STATUS, MAX_CHILDREN, PORT_STATUS, POWER_GOOD_DELAY, byte_at};
-use usb_transfer::log::{Step, micro_delay, ok};
+use usb_model::Buffer;
+use usb_store::{HUB_STATUS, MAX_CHILDREN, PORT_STATUS, POWER_GOOD_DELAY};
+use usb_transfer::bus::UsbBus;
 use usb_types::request::{
     CLEAR_FEATURE, GET_STATUS, HUB, PORT, SET_FEATURE, UsbDeviceRequest, device_request,
 };
-use usb_types::types::{Answer, wide};
+use usb_types::types::Failure;
 
-// Feature selectors, USB 2.0 table 11-17.
+// Feature selectors, USB 2.0 table 11-17. Numbers: `hub_change_port_feature` takes each u16, and an enum would take fewer.
 pub const PORT_SUSPEND: u16 = 2;
 
 pub const PORT_OVER_CURRENT: u16 = 3;
@@ -29,149 +29,101 @@ pub const C_PORT_ENABLE: u16 = 17;
 
 pub const C_PORT_RESET: u16 = 20;
 
-// The hub byte: hub data without descriptor, with.
+// The byte of a hub whose descriptor was not read, and was. Numbers: each is only written to the store, or compared with its byte.
 pub const WITHOUT_DESCRIPTOR: u8 = 1;
 
 pub const WITH_DESCRIPTOR: u8 = 2;
 
 // A call whose result the Rust does not look at: only a stop goes on upward.
-pub fn ignore(step: Step) -> Step
-    ensures { result ≡ ignored step }
+pub fn ignore(answer: Result<(), Failure>) -> Result<(), Failure>
+    ensures { result ≡ ignored answer }
 {
-    let answer = step.answer;
-    if let Answer::Stop(_) = answer {
-        return step;
+    if let Err(Failure::Error(_)) = answer {
+        return Ok(());
     }
-    let at = step.at;
-    ok(at)
+    answer
 }
 
-pub fn hub_get_status(
-    store: &mut [u8],
-    log: &mut [u8],
-    outcomes: &[u8],
-    at: Progress,
-    hub: usize,
-) -> Step
-    requires { Ready store log outcomes at × (hub < place_count) }
-    ensures { Does (Model.hub_get_status hub) store log outcomes at result }
+pub fn hub_get_status(bus: &mut UsbBus, hub: usize) -> Result<(), Failure>
+    requires { Ready bus.old × (hub < place_count) }
+    ensures { Does (Model.hub_get_status hub) bus.old bus.new result }
 {
     let request = device_request(HUB, GET_STATUS, 0, 0, 4);
     let buffer = Buffer {
         field: HUB_STATUS,
         room: 4,
     };
-    let transfer = read(store, log, outcomes, at, hub, request, 4, buffer);
-    transfer.step
+    read(bus, hub, request, 4, buffer)?;
+    Ok(())
 }
 
 fn feature_request(feature: u16, port: usize, set: bool) -> UsbDeviceRequest
     requires { port < 256 }
     ensures { result ≡ feature_request feature port set }
 {
+    let request = if set { SET_FEATURE } else { CLEAR_FEATURE };
     let index = (port + 1) as u16;
-    if set {
-        return device_request(PORT, SET_FEATURE, feature, index, 0);
-    }
-    device_request(PORT, CLEAR_FEATURE, feature, index, 0)
+    device_request(PORT, request, feature, index, 0)
 }
 
 pub fn hub_change_port_feature(
-    store: &mut [u8],
-    log: &mut [u8],
-    outcomes: &[u8],
-    at: Progress,
+    bus: &mut UsbBus,
     hub: usize,
     feature: u16,
     port: usize,
     set: bool,
-) -> Step
-    requires { Ready store log outcomes at × (hub < place_count) × (port < 256) }
-    ensures { Does (Model.hub_change_port_feature hub feature port set) store log outcomes at result }
+) -> Result<(), Failure>
+    requires { Ready bus.old × (hub < place_count) × (port < 256) }
+    ensures { Does (Model.hub_change_port_feature hub feature port set) bus.old bus.new result }
 {
     let request = feature_request(feature, port, set);
-    let nowhere = Buffer { field: 0, room: 0 };
-    let transfer = control(store, log, outcomes, at, hub, request, nowhere);
-    transfer.step
+    control(bus, hub, request, Buffer::NOWHERE)?;
+    Ok(())
 }
 
-pub fn hub_port_get_status(
-    store: &mut [u8],
-    log: &mut [u8],
-    outcomes: &[u8],
-    at: Progress,
-    hub: usize,
-    port: usize,
-) -> Step
-    requires { Ready store log outcomes at × (hub < place_count) × (port < ports_per_hub) }
-    ensures { Does (Model.hub_port_get_status hub port) store log outcomes at result }
+pub fn hub_port_get_status(bus: &mut UsbBus, hub: usize, port: usize) -> Result<(), Failure>
+    requires { Ready bus.old × (hub < place_count) × (port < ports_per_hub) }
+    ensures { Does (Model.hub_port_get_status hub port) bus.old bus.new result }
 {
     let request = device_request(PORT, GET_STATUS, 0, (port + 1) as u16, 4);
     let buffer = Buffer {
         field: PORT_STATUS + 4 * port,
         room: 4,
     };
-    let transfer = read(store, log, outcomes, at, hub, request, 4, buffer);
-    transfer.step
+    read(bus, hub, request, 4, buffer)?;
+    Ok(())
 }
 
 // Powers the first count ports, whatever comes of each.
-fn power_ports(
-    store: &mut [u8],
-    log: &mut [u8],
-    outcomes: &[u8],
-    at: Progress,
-    hub: usize,
-    count: usize,
-) -> Step
-    requires { Ready store log outcomes at × (hub < place_count) × (count ≤ 256) }
-    ensures { Does (power_ports hub count) store log outcomes at result }
+fn power_ports(bus: &mut UsbBus, hub: usize, count: usize) -> Result<(), Failure>
+    requires { Ready bus.old × (hub < place_count) × (count ≤ 256) }
+    ensures { Does (power_ports hub count) bus.old bus.new result }
 {
-    let mut next = at;
-    let mut port = 0;
-    while port < count {
-        let set = hub_change_port_feature(store, log, outcomes, next, hub, PORT_POWER, port, true);
-        let step = ignore(set);
-        let answer = step.answer;
-        let Answer::Ok = answer else {
-            return step;
-        };
-        next = step.at;
-        port += 1;
+    for port in 0..count {
+        ignore(hub_change_port_feature(bus, hub, PORT_POWER, port, true))?;
     }
-    ok(next)
+    Ok(())
 }
 
 // bPwrOn2PwrGood counts 2 ms; where it is 0, 100 ms are waited.
 fn power_delay(count: u8) -> u32
     ensures { result ≡ power_delay count }
 {
-    if count == 0 {
-        return 100000;
+    match count {
+        0 => 100000,
+        _ => u32::from(count) * 2000,
     }
-    (wide(count) * 2000) as u32
 }
 
-pub fn hub_power_on(
-    store: &mut [u8],
-    log: &mut [u8],
-    outcomes: &[u8],
-    at: Progress,
-    hub: usize,
-) -> Step
-    requires { Ready store log outcomes at × (hub < place_count) }
-    ensures { Does (Model.hub_power_on hub) store log outcomes at result }
+pub fn hub_power_on(bus: &mut UsbBus, hub: usize) -> Result<(), Failure>
+    requires { Ready bus.old × (hub < place_count) }
+    ensures { Does (Model.hub_power_on hub) bus.old bus.new result }
 {
-    if byte_at(store, hub, usb_store::HUB) != WITH_DESCRIPTOR {
-        return ok(at);
+    if bus.byte_at(hub, usb_store::HUB) != WITH_DESCRIPTOR {
+        return Ok(());
     }
-    let count = wide(byte_at(store, hub, MAX_CHILDREN));
-    let delay = power_delay(byte_at(store, hub, POWER_GOOD_DELAY));
-    let powered = power_ports(store, log, outcomes, at, hub, count);
-    let answer = powered.answer;
-    let Answer::Ok = answer else {
-        return powered;
-    };
-    let next = powered.at;
-    micro_delay(log, next, delay)
+    let count = bus.byte_at(hub, MAX_CHILDREN) as usize;
+    let delay = power_delay(bus.byte_at(hub, POWER_GOOD_DELAY));
+    power_ports(bus, hub, count)?;
+    bus.micro_delay(delay)
 }

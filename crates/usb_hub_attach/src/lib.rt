@@ -8,93 +8,61 @@ ghost use Rattle.usb_hub_attach.specs.Parts.{hub_endpoint, hub_described, hub_po
 
 use usb_hub::requests::{WITHOUT_DESCRIPTOR, hub_get_status, hub_power_on};
 use usb_hub_descriptor::hub_read_descriptor;
-use usb_model::Progress;
-use usb_store::{
-    ENDPOINT_ADDRESS, ENDPOINT_ATTRIBUTES, ENDPOINT_COUNT, MAX_CHILDREN, PORT_COUNT, byte_at,
-    set_byte,
-};
-use usb_transfer::log::Step;
-use usb_types::types::{Answer, ErrorCode};
+use usb_store::{ENDPOINT_ADDRESS, ENDPOINT_ATTRIBUTES, ENDPOINT_COUNT, MAX_CHILDREN, PORT_COUNT};
+use usb_transfer::bus::UsbBus;
+use usb_types::types::{ErrorCode, Failure};
 
 // One endpoint, to the host, of type interrupt (USB 2.0 11.23.1).
-fn hub_endpoint(store: &[u8], hub: usize) -> bool
-    requires { (length store.now ≡ store_length) × (hub < place_count) }
-    ensures { result ≡ hub_endpoint store.now hub }
+#[tactic(auto, unfolding(crate::specs::Parts::hub_endpoint))]
+fn hub_endpoint(bus: &UsbBus, hub: usize) -> bool
+    requires { (length bus.now.store.now ≡ store_length) × (hub < place_count) }
+    ensures { result ≡ hub_endpoint bus.now.store.now hub }
 {
-    if byte_at(store, hub, ENDPOINT_COUNT) != 1 {
-        return false;
-    }
-    if byte_at(store, hub, ENDPOINT_ADDRESS) < 128 {
-        return false;
-    }
-    byte_at(store, hub, ENDPOINT_ATTRIBUTES) % 4 == 3
+    bus.byte_at(hub, ENDPOINT_COUNT) == 1
+        && bus.byte_at(hub, ENDPOINT_ADDRESS) >= 128
+        && bus.byte_at(hub, ENDPOINT_ATTRIBUTES) % 4 == 3
 }
 
 // A hub has at most ten ports.
 fn ports_of(count: u8) -> u8
     ensures { result ≡ ports_of count }
 {
-    if count < 10 { count } else { 10 }
+    count.min(10)
 }
 
 // HubDevice::new, the hub descriptor, and as many children as it has ports.
-fn describe_hub(store: &mut [u8], log: &mut [u8], outcomes: &[u8], at: Progress, hub: usize) -> Step
-    requires { Ready store log outcomes at × (hub < place_count) }
-    ensures { Does (hub_described hub) store log outcomes at result }
+#[tactic(auto, unfolding(crate::specs::Parts::hub_described), using(usb_transfer::proofs::Steps::steps))]
+fn describe_hub(bus: &mut UsbBus, hub: usize) -> Result<(), Failure>
+    requires { Ready bus.old × (hub < place_count) }
+    ensures { Does (hub_described hub) bus.old bus.new result }
 {
-    set_byte(store, hub, usb_store::HUB, WITHOUT_DESCRIPTOR);
-    set_byte(store, hub, MAX_CHILDREN, 1);
-    let read = hub_read_descriptor(store, log, outcomes, at, hub);
-    let answer = read.answer;
-    let Answer::Ok = answer else {
-        return read;
-    };
-    let count = byte_at(store, hub, PORT_COUNT);
-    set_byte(store, hub, MAX_CHILDREN, ports_of(count));
-    read
+    bus.set_byte(hub, usb_store::HUB, WITHOUT_DESCRIPTOR);
+    bus.set_byte(hub, MAX_CHILDREN, 1);
+    hub_read_descriptor(bus, hub)?;
+    let count = bus.byte_at(hub, PORT_COUNT);
+    bus.set_byte(hub, MAX_CHILDREN, ports_of(count));
+    Ok(())
 }
 
 // Its status, power, its status again.
-fn power_hub(store: &mut [u8], log: &mut [u8], outcomes: &[u8], at: Progress, hub: usize) -> Step
-    requires { Ready store log outcomes at × (hub < place_count) }
-    ensures { Does (hub_powered hub) store log outcomes at result }
+#[tactic(auto, unfolding(crate::specs::Parts::hub_powered), using(usb_transfer::proofs::Steps::steps))]
+fn power_hub(bus: &mut UsbBus, hub: usize) -> Result<(), Failure>
+    requires { Ready bus.old × (hub < place_count) }
+    ensures { Does (hub_powered hub) bus.old bus.new result }
 {
-    let first = hub_get_status(store, log, outcomes, at, hub);
-    let answer = first.answer;
-    let Answer::Ok = answer else {
-        return first;
-    };
-    let next = first.at;
-    let powered = hub_power_on(store, log, outcomes, next, hub);
-    let answer = powered.answer;
-    let Answer::Ok = answer else {
-        return powered;
-    };
-    let last = powered.at;
-    hub_get_status(store, log, outcomes, last, hub)
+    hub_get_status(bus, hub)?;
+    hub_power_on(bus, hub)?;
+    hub_get_status(bus, hub)
 }
 
-pub fn ready_hub(
-    store: &mut [u8],
-    log: &mut [u8],
-    outcomes: &[u8],
-    at: Progress,
-    hub: usize,
-) -> Step
-    requires { Ready store log outcomes at × (hub < place_count) }
-    ensures { Does (hub_ready hub) store log outcomes at result }
+#[tactic(auto, using(crate::proofs::Hubs::ways))]
+pub fn ready_hub(bus: &mut UsbBus, hub: usize) -> Result<(), Failure>
+    requires { Ready bus.old × (hub < place_count) }
+    ensures { Does (hub_ready hub) bus.old bus.new result }
 {
-    if hub_endpoint(store, hub) {
-        let described = describe_hub(store, log, outcomes, at, hub);
-        let answer = described.answer;
-        let Answer::Ok = answer else {
-            return described;
-        };
-        let next = described.at;
-        return power_hub(store, log, outcomes, next, hub);
+    if !hub_endpoint(bus, hub) {
+        return Err(Failure::Error(ErrorCode::Incompatible));
     }
-    Step {
-        answer: Answer::Error(ErrorCode::Incompatible),
-        at,
-    }
+    describe_hub(bus, hub)?;
+    power_hub(bus, hub)
 }

@@ -12,7 +12,7 @@ use lib.Dec.{eqb}
 use lib.ListN.{get_or}
 use Rattle.usb_types.specs.Descriptors.{is_hub_class}
 use Rattle.usb_types.specs.Requests.{get_descriptor_code, to_hub}
-use Rattle.usb_types.specs.declared.types.Answer.{Answer}
+use Rattle.usb_types.specs.Answers.{Answer}
 use Rattle.usb_store.specs.Layout.{used_field, number_field, speed_field, status_field, hub_field, hub_descriptor_field, port_count_field, child_field, max_children_field, interface_class_field, endpoint_count_field, endpoint_address_field, endpoint_attributes_field, configuration_value_field}
 use Rattle.usb_store.specs.Access.{byte_at, with_byte}
 use Rattle.usb_store.specs.Values.{attached_status, powered_status, default_status, addressed_status, hub_without_descriptor, hub_with_descriptor}

@@ -1,14 +1,14 @@
 -- `Costs F k m`: from every state of which F's `pre` holds, m ends in one of which F's `post` holds, done, failed or halted; and what
 -- F counts as spent has grown by at most k more than what it counts as owned. One rule for each form of program. Assumes nothing.
-use Rattle.std.specs.Prelude.{if◌then◌else◌}
+use Rattle.std.specs.Prelude.{if◌then◌else◌, Ok, Err}
 use mathlib.Core.Path.{◌≡◌, refl}
 use mathlib.Core.Bool.{Bool, true, false}
 use Prim.Native.Nat.{ℕ, zero, suc, ◌+◌, ◌*◌, ◌≤◌, ◌<◌}
 use native.Mathlib.Omega.{arith}
 use Rattle.usb_types.specs.declared.types.ErrorCode.{ErrorCode}
 use Rattle.usb_types.specs.declared.types.Halt.{Halt}
-use Rattle.usb_types.specs.declared.types.Answer.{Answer}
-use Rattle.usb_types.specs.declared.types.Answer.TheVariants.{Ok, Error, Stop}
+use Rattle.usb_types.specs.Answers.{Answer}
+use Rattle.usb_types.specs.declared.types.Failure.TheVariants.{Error, Stop}
 use Rattle.usb_model.specs.Programs.{Ran, done, fail, halt, on, Program, ◌>>=◌, ◌>>◌, return, skip, throw, stop, look, change, ran, succeed, caught, attempt, ignore, when, each, end_of}
 
 pub record Frame (S : Type 0) : Type 1 where
@@ -101,9 +101,9 @@ module _ {S : Type 0} {F : Frame S} where
   succeeds a = record { run = go a }
     where
       go : (a : Answer) (s : S) → F.pre s → Ended (after F) 0 s (end_of (ran a s))
-      go Ok s h = stays F s h
-      go (Error e) s h = stays F s h
-      go (Stop x) s h = stays F s h
+      go (Ok _) s h = stays F s h
+      go (Err (Error e)) s h = stays F s h
+      go (Err (Stop x)) s h = stays F s h
 
   pub attempts : {k : ℕ} {m : Program S (Unit {0})} → Costs F k m → Costs F k (attempt m)
   unfolding attempt

@@ -1,4 +1,5 @@
 -- Every call leaves what `Accounts` says, refused or not. Assumes nothing.
+use Rattle.std.specs.Prelude.{Ok, Err}
 use mathlib.Core.Path.{◌≡◌, refl, sym, ◌∙◌}
 use mathlib.Core.Bool.{Bool, true, false, cond, not, ◌||◌}
 use mathlib.Core.Logic.{◌≢◌}
@@ -15,8 +16,8 @@ use Rattle.usb_types.specs.declared.types.ErrorCode.{ErrorCode}
 use Rattle.usb_types.specs.declared.types.ErrorCode.TheVariants.{General, Argument, Retry, Device, Incompatible, Compiler, Memory, Timeout, Disconnected, GarbledConfiguration, BusFull}
 use Rattle.usb_types.specs.declared.types.Halt.{Halt}
 use Rattle.usb_types.specs.declared.types.Halt.TheVariants.{GarbledOutcome, OutcomesSpent, LogFull}
-use Rattle.usb_types.specs.declared.types.Answer.{Answer}
-use Rattle.usb_types.specs.declared.types.Answer.TheVariants.{Ok, Error, Stop}
+use Rattle.usb_types.specs.Answers.{Answer}
+use Rattle.usb_types.specs.declared.types.Failure.TheVariants.{Error, Stop}
 use Rattle.usb_types.specs.declared.types.Refusal.{Refusal}
 use Rattle.usb_types.specs.declared.types.Refusal.TheVariants.{BadArgument, StoreDamaged, AlreadyAttached, RootSpeed}
 use Rattle.usb_store.specs.Layout.{store_length, child_field, max_children_field}
@@ -92,9 +93,9 @@ halt_listed OutcomesSpent = listed 14 (omega arith)
 halt_listed LogFull = listed 15 (omega arith)
 
 answer_listed : (a : Answer) → Listed (answer_number a)
-answer_listed Ok = listed 0 (omega arith)
-answer_listed (Error e) = error-listed e
-answer_listed (Stop h) = halt_listed h
+answer_listed (Ok _) = listed 0 (omega arith)
+answer_listed (Err (Error e)) = error-listed e
+answer_listed (Err (Stop h)) = halt_listed h
 
 refusal_listed : (r : Refusal) → Listed (refusal_number r)
 refusal_listed BadArgument = listed 2 (omega arith)

@@ -1,14 +1,14 @@
 -- `Safe P P' m Q`: from every state of which P holds, m leaves one of which P' holds, done, failed or halted; and where it is done,
 -- Q holds of its value. One rule for each form of program. Assumes nothing.
-use Rattle.std.specs.Prelude.{if◌then◌else◌}
+use Rattle.std.specs.Prelude.{if◌then◌else◌, Ok, Err}
 use mathlib.Core.Path.{◌≡◌, refl}
 use mathlib.Core.Bool.{Bool, true, false}
 use Prim.Native.Nat.{ℕ, zero, suc, ◌+◌, ◌<◌}
 use native.Mathlib.Omega.{arith}
 use Rattle.usb_types.specs.declared.types.ErrorCode.{ErrorCode}
 use Rattle.usb_types.specs.declared.types.Halt.{Halt}
-use Rattle.usb_types.specs.declared.types.Answer.{Answer}
-use Rattle.usb_types.specs.declared.types.Answer.TheVariants.{Ok, Error, Stop}
+use Rattle.usb_types.specs.Answers.{Answer}
+use Rattle.usb_types.specs.declared.types.Failure.TheVariants.{Error, Stop}
 use Rattle.usb_model.specs.Programs.{Ran, done, fail, halt, on, Program, ◌>>=◌, ◌>>◌, return, skip, throw, stop, look, change, ran, succeed, caught, attempt, ignore, when, each, end_of}
 
 abbrev pub Any : {A : Type 0} → A → Type 0
@@ -70,9 +70,9 @@ module _ {S : Type 0} {P P' : S → Type 0} (weaker : (s : S) → P s → P' s) 
   unless_to false e k h = h refl
 
 ran_left : {S : Type 0} {P : S → Type 0} (s : S) (a : Answer) → P s → Left P Any (ran a s)
-ran_left s Ok p = is-done p tt
-ran_left s (Error e) p = is_failed p
-ran_left s (Stop h) p = is_halted p
+ran_left s (Ok _) p = is-done p tt
+ran_left s (Err (Error e)) p = is_failed p
+ran_left s (Err (Stop h)) p = is_halted p
 
 pub caught_left : {S : Type 0} {P : S → Type 0} {r : Ran S (Unit {0})} → Left P Any r → Left P Any (caught r)
 caught_left (is-done p q) = is-done p tt

@@ -1,7 +1,7 @@
 -- `Extends more m`: with more outcomes behind those of a world, m does what it did without them. But where it was stopped for want of
 -- outcomes, it logs what it had logged at that stop and goes on from there. One rule for each form of program, then the steps that
 -- the functions are made of. It holds from every world, so no rule has a side condition. Assumes nothing.
-use Rattle.std.specs.Prelude.{if◌then◌else◌}
+use Rattle.std.specs.Prelude.{if◌then◌else◌, Ok, Err}
 use mathlib.Core.Path.{◌≡◌, refl, ap}
 use mathlib.Core.Bool.{Bool, true, false, cond, not}
 use mathlib.Core.List.{List, [], ◌∷◌, ◌++◌}
@@ -16,8 +16,8 @@ use Rattle.usb_types.specs.Outcomes.{listed}
 use Rattle.usb_types.specs.Actions.{request_action, wait_action, frame_interval_action}
 use Rattle.usb_types.specs.declared.types.ErrorCode.{ErrorCode}
 use Rattle.usb_types.specs.declared.types.Halt.TheVariants.{GarbledOutcome, OutcomesSpent, LogFull}
-use Rattle.usb_types.specs.declared.types.Answer.{Answer}
-use Rattle.usb_types.specs.declared.types.Answer.TheVariants.{Ok, Error, Stop}
+use Rattle.usb_types.specs.Answers.{Answer}
+use Rattle.usb_types.specs.declared.types.Failure.TheVariants.{Error, Stop}
 use Rattle.usb_types.specs.declared.request.UsbDeviceRequest.{UsbDeviceRequest}
 use Rattle.usb_types.specs.declared.pipe.UsbPipeAddress.{UsbPipeAddress}
 use Rattle.usb_store.proofs.Writes.{length_write}
@@ -133,9 +133,9 @@ module _ {more : List ℕ} where
 
   pub succeeds : (a : Answer) → Extends more (succeed a)
   unfolding succeed
-  succeeds Ok = record { grows = λ w. still; repeats = λ w. same }
-  succeeds (Error e) = record { grows = λ w. still; repeats = λ w. same }
-  succeeds (Stop h) = record { grows = λ w. still; repeats = λ w. same }
+  succeeds (Ok _) = record { grows = λ w. still; repeats = λ w. same }
+  succeeds (Err (Error e)) = record { grows = λ w. still; repeats = λ w. same }
+  succeeds (Err (Stop h)) = record { grows = λ w. still; repeats = λ w. same }
 
   pub ignores : {m : M (Unit {0})} → Extends more m → Extends more (ignore m)
   unfolding ignore

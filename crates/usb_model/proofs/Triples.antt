@@ -1,6 +1,6 @@
 -- Triples over worlds with their history. `Does P m Q N`: from a state of P the program m is done in Q, or failed in N; of a halt, which
 -- stops the whole call, nothing is said. Assumes nothing.
-use Rattle.std.specs.Prelude.{if◌then◌else◌}
+use Rattle.std.specs.Prelude.{if◌then◌else◌, Ok, Err}
 use mathlib.Core.Path.{◌≡◌, refl, sym, subst}
 use mathlib.Core.Bool.{Bool, true, false, true≢false, false≢true}
 use mathlib.Core.List.{List}
@@ -8,8 +8,8 @@ use Prim.Native.Nat.{ℕ, zero, suc, ◌+◌, ◌<◌}
 use native.Mathlib.Omega.{arith}
 use Rattle.usb_types.specs.declared.types.ErrorCode.{ErrorCode}
 use Rattle.usb_types.specs.declared.types.Halt.{Halt}
-use Rattle.usb_types.specs.declared.types.Answer.{Answer}
-use Rattle.usb_types.specs.declared.types.Answer.TheVariants.{Ok, Error, Stop}
+use Rattle.usb_types.specs.Answers.{Answer}
+use Rattle.usb_types.specs.declared.types.Failure.TheVariants.{Error, Stop}
 use Rattle.usb_store.specs.Access.{byte_at}
 use Rattle.usb_model.specs.Programs.{Ran, done, fail, halt, on, ◌>>=◌, ◌>>◌, return, skip, throw, look, change, ran, succeed, caught, attempt, ignore, when, each}
 use Rattle.usb_model.specs.World.{World, M, with_store, get, get_number}
@@ -138,9 +138,9 @@ module _ {h₀ : List Event} where
     does_unless b e f = does_when b (λ t. does_throw e f) (λ t s p. (p, t))
 
     ran_leads : (s : State h₀) (a : Answer) → P s → (is_ok a ≡ false → N s) → Leads (λ _ t. P t × (is_ok a ≡ true)) N (ran a s.world)
-    ran_leads s Ok p f = fine s (p, refl)
-    ran_leads s (Error e) p f = bad s (f refl)
-    ran_leads s (Stop h) p f = gone
+    ran_leads s (Ok _) p f = fine s (p, refl)
+    ran_leads s (Err (Error e)) p f = bad s (f refl)
+    ran_leads s (Err (Stop h)) p f = gone
 
     pub does_succeed : (a : Answer) → (is_ok a ≡ false → (s : State h₀) → P s → N s) → Does P (succeed a) (λ _ s. P s × (is_ok a ≡ true)) N
     unfolding succeed

@@ -1,9 +1,10 @@
 -- Programs over a state. Each ends done with a value, failed with a code or halted, and leaves a state.
-use Rattle.std.specs.Prelude.{if◌then◌else◌, Bool, cond, ℕ, zero, suc, ◌+◌}
+use Rattle.std.specs.Prelude.{Result, if◌then◌else◌, Bool, ℕ, zero, suc, ◌+◌, Ok, Err}
 use Rattle.usb_types.specs.declared.types.ErrorCode.{ErrorCode}
 use Rattle.usb_types.specs.declared.types.Halt.{Halt}
-use Rattle.usb_types.specs.declared.types.Answer.{Answer}
-use Rattle.usb_types.specs.declared.types.Answer.TheVariants.{Ok, Error, Stop}
+use Rattle.usb_types.specs.declared.types.Failure.{Failure}
+use Rattle.usb_types.specs.Answers.{Answer}
+use Rattle.usb_types.specs.declared.types.Failure.TheVariants.{Error, Stop}
 
 -- document 01: "Answers −13 to −15 stop the whole call; −10 and −11 travel upward as the Rust's codes do"
 pub data Ran (S A : Type 0) : Type 0 where
@@ -53,11 +54,11 @@ look f s = done (f s) s
 unfoldable pub change : {S : Type 0} → (S → S) → Program S (Unit {0})
 change f s = done tt (f s)
 
--- how a program that gives nothing ends, by its answer
-abbrev pub ran : {S : Type 0} → Answer → S → Ran S (Unit {0})
-ran Ok s = done tt s
-ran (Error e) s = fail e s
-ran (Stop h) s = halt h s
+-- how a program ends, by what it answers
+abbrev pub ran : {S A : Type 0} → Result A Failure → S → Ran S A
+ran (Ok a) s = done a s
+ran (Err (Error e)) s = fail e s
+ran (Err (Stop h)) s = halt h s
 
 -- `if result != OK { return result; }`
 unfoldable pub succeed : {S : Type 0} → Answer → Program S (Unit {0})
@@ -65,8 +66,8 @@ succeed a s = ran a s
 
 -- a failure as a value; a halt goes on upward
 abbrev pub caught : {S : Type 0} → Ran S (Unit {0}) → Ran S Answer
-caught (done a s) = done Ok s
-caught (fail e s) = done (Error e) s
+caught (done a s) = done (Ok tt) s
+caught (fail e s) = done (Err (Error e)) s
 caught (halt h s) = halt h s
 
 -- `let result = ..`

@@ -15,3 +15,8 @@ pub struct Buffer {
     pub field: usize,
     pub room: usize,
 }
+
+impl Buffer {
+    // The bytes are handed back and not stored.
+    pub const NOWHERE: Buffer = Buffer { field: 0, room: 0 };
+}

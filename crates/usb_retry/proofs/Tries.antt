@@ -1,74 +1,49 @@
--- The tries of `hub_port_reset`, over plain values. Assumes nothing.
-use mathlib.Core.Path.{◌≡◌, refl, ◌∙◌}
-use mathlib.Core.Bool.{Bool, true, false, ◌&&◌, cond}
-use Prim.Native.Nat.{ℕ, suc, ◌-◌, ◌<◌}
-use lib.ListN.{length}
-use Rattle.usb_types.specs.declared.types.ErrorCode.TheVariants.{Device}
-use Rattle.usb_types.specs.declared.types.Answer.{Answer}
-use Rattle.usb_types.specs.declared.types.Answer.TheVariants.{Ok, Error}
-use Rattle.usb_model.specs.Programs.{◌>>=◌, skip}
+-- The tries of `hub_port_reset`: a turn of the loop, over plain values. Assumes nothing.
+use Rattle.std.specs.Prelude.{◌≡◌, Bool, true, false, cond, ℕ, suc, ◌+◌, ◌-◌, ◌<◌, ◌≤◌, Ok, Err, IsErr, IsErrAnd}
+use Rattle.std.proofs.Common.{arith, ap, sym, ◌∙◌}
+use Rattle.usb_types.specs.Answers.{Answer}
+use Rattle.usb_types.specs.declared.types.Failure.{Failure}
+use Rattle.usb_model.specs.Programs.{Ran, on, ◌>>=◌, skip}
 use Rattle.usb_model.specs.World.{World, M}
-use Rattle.usb_model.specs.Features.{port_enable, port_reset, bit}
-use Rattle.usb_model.specs.Hub.{set_port_feature, port_status, await_enabled, reset_tries}
-use Rattle.usb_transfer.specs.Runs.{Fit, Ends}
-use Rattle.usb_transfer.proofs.Regroups.{Same, back, ends_as, bind_bind, next_bind, given}
-use Rattle.usb_transfer.proofs.Steps.{NotOk, bind_is, bound, bound_ended, next, got_number, taken_if, unless, thrown, skipped, returned, Going, goes_to}
-use Rattle.usb_port.proofs.Awaits.{status_in, some}
+use Rattle.usb_model.specs.Hub.{reset_tries}
+use Rattle.usb_transfer.specs.declared.bus.UsbBus.{UsbBus}
+use Rattle.usb_transfer.specs.Runs.{world, Ready, Does}
+use Rattle.usb_transfer.proofs.Regroups.{Same, does_as, bind_bind, next_bind, given}
+use Rattle.usb_transfer.proofs.Steps as Steps
+use Rattle.usb_transfer.proofs.Steps.{bound, bound_failed, taken_if, skipped, Going, goes_to}
+use Rattle.usb_port.proofs.Awaits.{one_more}
 use Rattle.usb_retry.specs.Parts.{is_lost, try_reset}
 
--- ---- one try, after the reads
+-- the next tries, where the port was not seen enabled
+abbrev rest : ℕ → ℕ → ℕ → Bool → M (Unit {0})
+rest n hub port enabled = cond enabled skip (reset_tries n hub port)
 
-module _ (hub port : ℕ) {w u v : World} (set : Ends (set_port_feature hub port_reset port) w Ok tt u)
-    (seen : Bool) (reads : Ends (await_enabled 10 hub port) u Ok seen v) where
-  pub try_lost : seen ≡ true → is_lost (status_in v hub port) ≡ true → Ends (try_reset hub port) w (Error Device) false v
-  unfolding try_reset port_status
-  try_lost s l = next set (bound _ reads (got_number _ _ _ _ (thrown _ _ false (rw (s, l) refl) reads.fit)))
-
-  try_done : (seen && is_lost (status_in v hub port)) ≡ false → Ends (try_reset hub port) w Ok (seen && bit port_enable (status_in v hub port)) v
-  unfolding try_reset port_status
-  try_done t = next set (bound _ reads (got_number _ _ _ _ (unless _ t (returned _ reads.fit))))
-
-  pub try_kept : seen ≡ true → is_lost (status_in v hub port) ≡ false → (enabled : Bool) → enabled ≡ bit port_enable (status_in v hub port)
-      → Ends (try_reset hub port) w Ok enabled v
-  unfolding try_reset port_status
-  try_kept s l enabled e =
-      let value : (seen && bit port_enable (status_in v hub port)) ≡ enabled = rw (s, e) refl in
-      let there : (seen && is_lost (status_in v hub port)) ≡ false = rw (s, l) refl in
-      rw (← value) (try_done there)
-
-  pub try_unseen : seen ≡ false → Ends (try_reset hub port) w Ok seen v
-  unfolding try_reset port_status
-  try_unseen s =
-      let value : (seen && bit port_enable (status_in v hub port)) ≡ false = rw s refl in
-      let none : (seen && is_lost (status_in v hub port)) ≡ false = rw s refl in
-      rw (s, ← value) (try_done none)
-
--- ---- a turn of the tries
-
-tries_turn : (hub port n : ℕ)
-    → Same (reset_tries (suc n) hub port) (try_reset hub port >>= (λ enabled. cond enabled skip (reset_tries n hub port)))
+tries_turn : (hub port n : ℕ) → Same (try_reset hub port >>= rest n hub port) (reset_tries (suc n) hub port)
 unfolding reset_tries try_reset is_lost
-tries_turn hub port n = back (next_bind _ _ _ (bind_bind _ _ _ (λ seen. bind_bind _ _ _ (λ status. next_bind _ _ _ (given _ _)))))
+tries_turn hub port n = next_bind _ _ _ (bind_bind _ _ _ (λ seen. bind_bind _ _ _ (λ status. next_bind _ _ _ (given _ _))))
 
-turned : (hub port left : ℕ) → 0 < left → {r : Answer} {w u : World}
-    → Ends (try_reset hub port >>= (λ enabled. cond enabled skip (reset_tries (left - 1) hub port))) w r tt u
-    → Ends (reset_tries left hub port) w r tt u
-turned hub port left l e = rw (some l) (ends_as (back (tries_turn hub port (left - 1))) e)
+turned : (hub port i : ℕ) → i < 3 → Same (try_reset hub port >>= rest (3 - (i + 1)) hub port) (reset_tries (3 - i) hub port)
+turned hub port i l = rw (one_more 3 i l) (tries_turn hub port (3 - (i + 1)))
 
-module _ (hub port left : ℕ) {w v : World} (l : 0 < left) where
-  pub tries_ended : {a : Answer} {enabled : Bool} → Ends (try_reset hub port) w a enabled v → NotOk a → Ends (reset_tries left hub port) w a tt v
-  tries_ended d n = turned hub port left l (bound_ended _ tt d n)
+module _ (hub port i : ℕ) (l : i < 3) {b b₁ : UsbBus} where
+  pub tries_failed : {f : Failure} {r : Answer} → Does (try_reset hub port) b b₁ (Err f)
+      → IsErr r × IsErrAnd r (λ g. g ≡ f) → Does (reset_tries (3 - i) hub port) b b₁ r
+  tries_failed d x = does_as (turned hub port i l) (bound_failed _ d x)
 
-  module _ {enabled : Bool} (d : Ends (try_reset hub port) w Ok enabled v) where
-    pub tries_done : enabled ≡ true → Ends (reset_tries left hub port) w Ok tt v
-    tries_done e = turned hub port left l (bound _ d (taken_if _ e (skipped d.fit)))
+  module _ {enabled : Bool} (d : Does (try_reset hub port) b b₁ (Ok enabled)) where
+    pub tries_done : enabled ≡ true → Does (reset_tries (3 - i) hub port) b b₁ (Ok tt)
+    tries_done e = does_as (turned hub port i l) (bound _ d (taken_if _ e (skipped d.fit)))
 
-    pub tries_goes : enabled ≡ false → {m : M (Unit {0})} {u : World} → Going m u (reset_tries left hub port) w
-        → length v.store ≡ length w.store → length v.log ≡ length w.log → Going m u (reset_tries (left - 1) hub port) v
+    pub tries_goes : {m : M (Unit {0})} {b₀ : UsbBus} → enabled ≡ false
+        → Going m b₀ (reset_tries (3 - i) hub port) b → Going m b₀ (reset_tries (3 - (i + 1)) hub port) b₁
+    unfolding ◌>>=◌
     tries_goes e g =
-        goes_to (rw (some l) at g) (reset_tries (left - 1) hub port) v
-        ((tries_turn hub port (left - 1)).is w ∙ bind_is (try_reset hub port) w _ d.is _ ∙ rw e refl) d.fit
+        let next = ap (λ (r : Ran World Bool). on r (rest (3 - (i + 1)) hub port)) d.is in
+        let last = ap (λ (t : Bool). rest (3 - (i + 1)) hub port t (world b₁)) e in
+        goes_to g (reset_tries (3 - (i + 1)) hub port) (sym ((turned hub port i l).is (world b)) ∙ next ∙ last) d.fit d.lends
 
-pub tries_none : (hub port left : ℕ) {w : World} → left ≡ 0 → Fit w → Ends (reset_tries left hub port) w Ok tt w
-unfolding reset_tries skip
-tries_none hub port left e f = rw e (record { is = refl; fit = f })
+pub tries_none : (hub port i : ℕ) {b : UsbBus} → 3 ≤ i → Ready b → Does (reset_tries (3 - i) hub port) b b (Ok tt)
+unfolding reset_tries
+tries_none hub port i l f = let none : 3 - i ≡ 0 = omega arith in rw none (skipped f)
+
+pub ruleset turns = (Steps.going, Steps.ends_with, tries_failed, tries_done, tries_none)

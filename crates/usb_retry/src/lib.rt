@@ -1,176 +1,89 @@
 // device/hub.rs, HubPortReset.
+// hub and port stay two parameters, as in usb_hub: a struct of both would be taken apart at each call.
 #![tactic(auto)]
 
 ghost use Rattle.std.specs.Prelude.{◌≡◌, ◌<◌};
 ghost use Rattle.usb_store.specs.Layout.{place_count, ports_per_hub};
 ghost use Rattle.usb_model.specs.Hub as Model;
 ghost use Rattle.usb_transfer.specs.Runs.{Ready, Does};
-ghost use Rattle.usb_port.specs.Parts.{Sees};
 ghost use Rattle.usb_retry.specs.Parts.{reset_or_enabled, is_lost, try_reset};
 
 use usb_hub::ports::{has, port_status};
 use usb_hub::requests::{C_PORT_RESET, PORT_RESET, hub_change_port_feature, ignore};
-use usb_model::Progress;
-use usb_port::{Awaited, delayed_status};
-use usb_transfer::log::Step;
-use usb_types::types::{Answer, ErrorCode};
+use usb_port::delayed_status;
+use usb_transfer::bus::UsbBus;
+use usb_types::types::{ErrorCode, Failure};
 
+const TRIES: usize = 3;
+
+// The status reads of one try.
+const READS: usize = 10;
+
+#[tactic(auto, unfolding(crate::specs::Parts::reset_or_enabled, usb_model::specs::Features::bit))]
 fn reset_or_enabled(status: u32) -> bool
     ensures { result ≡ reset_or_enabled status }
 {
-    if has(status, usb_hub::ports::C_PORT_RESET) {
-        return true;
-    }
-    has(status, usb_hub::ports::PORT_ENABLE)
+    has(status, usb_hub::ports::C_PORT_RESET) || has(status, usb_hub::ports::PORT_ENABLE)
 }
 
-// At most ten reads, until one shows the reset change or an enabled port; one seen in the tenth counts as not seen.
-fn await_enabled(
-    store: &mut [u8],
-    log: &mut [u8],
-    outcomes: &[u8],
-    at: Progress,
-    hub: usize,
-    port: usize,
-) -> Awaited
-    requires { Ready store log outcomes at × (hub < place_count) × (port < ports_per_hub) }
-    ensures { Sees (Model.await_enabled 10 hub port) store log outcomes at result }
+// Reads until one shows the reset change or an enabled port; one seen in the tenth counts as not seen. Apart from usb_port's
+// await_reset: they differ in count, wait, test and in what the last read counts, and a function that takes all four is no plainer.
+#[tactic(auto, using(crate::proofs::Polls::turns))]
+fn await_enabled(bus: &mut UsbBus, hub: usize, port: usize) -> Result<bool, Failure>
+    requires { Ready bus.old × (hub < place_count) × (port < ports_per_hub) }
+    ensures { Does (Model.await_enabled 10 hub port) bus.old bus.new result }
 {
-    let mut progress = at;
-    let mut left: usize = 10;
-    while 0 < left {
-        let read = delayed_status(store, log, outcomes, progress, hub, port, 20000);
-        let answer = read.answer;
-        let Answer::Ok = answer else {
-            return Awaited {
-                step: read,
-                seen: false,
-            };
-        };
-        progress = read.at;
-        left -= 1;
-        if reset_or_enabled(port_status(store, hub, port)) {
-            return Awaited {
-                step: read,
-                seen: left != 0,
-            };
+    for read in 0..READS {
+        delayed_status(bus, hub, port, 20000)?;
+        if reset_or_enabled(port_status(bus.stored(), hub, port)) {
+            return Ok(read + 1 != READS);
         }
     }
-    let step = Step {
-        answer: Answer::Ok,
-        at: progress,
-    };
-    Awaited { step, seen: false }
+    Ok(false)
 }
 
 // The device is gone, or another came.
+#[tactic(auto, unfolding(crate::specs::Parts::is_lost, usb_model::specs::Features::bit))]
 fn lost(status: u32) -> bool
     ensures { result ≡ is_lost status }
 {
-    if has(status, usb_hub::ports::C_PORT_CONNECTION) {
-        return true;
-    }
-    !has(status, usb_hub::ports::PORT_CONNECTION)
+    has(status, usb_hub::ports::C_PORT_CONNECTION) || !has(status, usb_hub::ports::PORT_CONNECTION)
 }
 
 // One try of HubPortReset: was the port seen enabled?
-fn try_reset(
-    store: &mut [u8],
-    log: &mut [u8],
-    outcomes: &[u8],
-    at: Progress,
-    hub: usize,
-    port: usize,
-) -> Awaited
-    requires { Ready store log outcomes at × (hub < place_count) × (port < ports_per_hub) }
-    ensures { Sees (try_reset hub port) store log outcomes at result }
+#[tactic(auto, unfolding(crate::specs::Parts::try_reset, usb_model::specs::Hub::port_status), using(usb_transfer::proofs::Steps::steps))]
+fn try_reset(bus: &mut UsbBus, hub: usize, port: usize) -> Result<bool, Failure>
+    requires { Ready bus.old × (hub < place_count) × (port < ports_per_hub) }
+    ensures { Does (try_reset hub port) bus.old bus.new result }
 {
-    let seen = false;
-    let reset = hub_change_port_feature(store, log, outcomes, at, hub, PORT_RESET, port, true);
-    let answer = reset.answer;
-    let Answer::Ok = answer else {
-        return Awaited { step: reset, seen };
-    };
-    let next = reset.at;
-    let reads = await_enabled(store, log, outcomes, next, hub, port);
-    let step = reads.step;
-    let answer = step.answer;
-    let Answer::Ok = answer else {
-        return reads;
-    };
-    let status = port_status(store, hub, port);
-    if reads.seen {
-        if lost(status) {
-            let at = step.at;
-            let step = Step {
-                answer: Answer::Error(ErrorCode::Device),
-                at,
-            };
-            return Awaited { step, seen };
-        }
-        let seen = has(status, usb_hub::ports::PORT_ENABLE);
-        return Awaited { step, seen };
+    hub_change_port_feature(bus, hub, PORT_RESET, port, true)?;
+    let seen = await_enabled(bus, hub, port)?;
+    let status = port_status(bus.stored(), hub, port);
+    if seen && lost(status) {
+        return Err(Failure::Error(ErrorCode::Device));
     }
-    reads
+    Ok(seen && has(status, usb_hub::ports::PORT_ENABLE))
 }
 
-// At most three tries.
-fn reset_tries(
-    store: &mut [u8],
-    log: &mut [u8],
-    outcomes: &[u8],
-    at: Progress,
-    hub: usize,
-    port: usize,
-) -> Step
-    requires { Ready store log outcomes at × (hub < place_count) × (port < ports_per_hub) }
-    ensures { Does (Model.reset_tries 3 hub port) store log outcomes at result }
+#[tactic(auto, using(crate::proofs::Tries::turns))]
+fn reset_tries(bus: &mut UsbBus, hub: usize, port: usize) -> Result<(), Failure>
+    requires { Ready bus.old × (hub < place_count) × (port < ports_per_hub) }
+    ensures { Does (Model.reset_tries 3 hub port) bus.old bus.new result }
 {
-    let mut progress = at;
-    let mut left: usize = 3;
-    while 0 < left {
-        let tried = try_reset(store, log, outcomes, progress, hub, port);
-        let step = tried.step;
-        let answer = step.answer;
-        let Answer::Ok = answer else {
-            return step;
-        };
-        if tried.seen {
-            return step;
+    for _tried in 0..TRIES {
+        if try_reset(bus, hub, port)? {
+            return Ok(());
         }
-        progress = step.at;
-        left -= 1;
     }
-    Step {
-        answer: Answer::Ok,
-        at: progress,
-    }
+    Ok(())
 }
 
-pub fn hub_port_reset(
-    store: &mut [u8],
-    log: &mut [u8],
-    outcomes: &[u8],
-    at: Progress,
-    hub: usize,
-    port: usize,
-) -> Step
-    requires { Ready store log outcomes at × (hub < place_count) × (port < ports_per_hub) }
-    ensures { Does (Model.hub_port_reset hub port) store log outcomes at result }
+#[tactic(auto, unfolding(usb_model::specs::Hub::hub_port_reset), using(usb_hub::proofs::Parts::steps))]
+pub fn hub_port_reset(bus: &mut UsbBus, hub: usize, port: usize) -> Result<(), Failure>
+    requires { Ready bus.old × (hub < place_count) × (port < ports_per_hub) }
+    ensures { Does (Model.hub_port_reset hub port) bus.old bus.new result }
 {
-    let tried = reset_tries(store, log, outcomes, at, hub, port);
-    let answer = tried.answer;
-    let Answer::Ok = answer else {
-        return tried;
-    };
-    let next = tried.at;
-    let first = ignore(hub_change_port_feature(
-        store, log, outcomes, next, hub, PORT_RESET, port, false,
-    ));
-    let answer = first.answer;
-    let Answer::Ok = answer else {
-        return first;
-    };
-    let last = first.at;
-    ignore(hub_change_port_feature(store, log, outcomes, last, hub, C_PORT_RESET, port, false))
+    reset_tries(bus, hub, port)?;
+    ignore(hub_change_port_feature(bus, hub, PORT_RESET, port, false))?;
+    ignore(hub_change_port_feature(bus, hub, C_PORT_RESET, port, false))
 }

@@ -1,10 +1,16 @@
 -- The ways through a scan, over plain values. Assumes nothing.
-use mathlib.Core.Path.{◌≡◌, refl, ◌∙◌}
+use mathlib.Core.Path.{◌≡◌, refl, sym, ap, ◌∙◌}
+use lib.Dec.{eqb}
+use Rattle.std.proofs.Math.Dec.{eqb-suc-suc}
+use Rattle.std.specs.Option.{unwrap_or, option_eq}
+use Rattle.std.proofs.lemmas.Option.{none-some}
 use Prim.Native.Nat.{ℕ, zero, suc, ◌+◌, ◌-◌, ◌≤◌, ◌<◌}
 use native.Mathlib.Omega.{arith}
 use borrow.Author.Tests.{eq-eqb, ne_eqb}
-use Rattle.usb_types.specs.declared.types.Answer.{Answer}
-use Rattle.usb_types.specs.declared.types.Answer.TheVariants.{Ok, Error, Stop}
+use Rattle.std.specs.Prelude.{Option, None, Some, Ok, Err}
+use Rattle.usb_types.specs.Answers.{Answer}
+use Rattle.usb_types.specs.declared.types.Failure.{Failure}
+use Rattle.usb_types.specs.declared.types.Failure.TheVariants.{Error, Stop}
 use Rattle.usb_store.specs.Layout.{place_count, hub_field, child_field, max_children_field}
 use Rattle.usb_store.specs.Access.{byte_at}
 use Rattle.usb_device.specs.Device.{first_unused, free_places}
@@ -15,42 +21,61 @@ use Rattle.usb_model.specs.Hub.{hub_check_connection, scan_port, hub_check_for_c
 use Rattle.usb_model.specs.Attach.{attach_below}
 use Rattle.usb_model.proofs.Pairs.{Alike}
 use Rattle.usb_model.proofs.Cycle.{scan-port, check_for_change}
-use Rattle.usb_hub.specs.Parts.{passed}
-use Rattle.usb_transfer.specs.Runs.{Ends}
-use Rattle.usb_transfer.proofs.Steps.{NotOk, NotStop, bound, bound_ended, got, got_as, done_if, done_unless, attempted, attempt_stopped, Going}
-use Rattle.usb_driver.specs.Bus.{Bus}
+use Rattle.usb_hub.specs.Parts.{ignored, place_of}
+use Rattle.usb_transfer.specs.declared.bus.UsbBus.{UsbBus}
+use Rattle.usb_transfer.specs.Runs.{world, Does}
+use Rattle.usb_transfer.proofs.Steps.{bound, bound_ends, got, done_if, done_unless, attempted, attempt_stopped, Going}
+use Rattle.usb_driver.specs.Bus.{Bus, OnBus}
 use Rattle.usb_driver.proofs.Reaches.{After, after, at_place}
 
-module _ (attach below : ℕ → M (Unit {0})) (hub port : ℕ) {w v : World} where
+module _ (attach below : ℕ → M (Unit {0})) (hub port : ℕ) {b b₁ : UsbBus} where
   -- a failed check passes over the child
-  pub passes_failed : (a : Answer) → Ends (hub_check_connection attach hub port) w a tt v → NotOk a
-      → Ends (scan_port attach below hub port) w (passed a) tt v
-  unfolding scan_port NotOk NotStop
-  passes_failed Ok r n = absurd n
-  passes_failed (Error e) r n = bound _ (attempted r tt) (got _ _ _ (got _ _ _ (done_unless _ refl r.fit)))
-  passes_failed (Stop h) r n = bound_ended _ _ (attempt_stopped r h refl) tt
+  pub passes_failed : {f : Failure} {r : Answer} → Does (hub_check_connection attach hub port) b b₁ (Err f) → r ≡ ignored (Err f)
+      → Does (scan_port attach below hub port) b b₁ r
+  unfolding scan_port
+  passes_failed {f = Error e} d x = rw x (bound _ (attempted d tt) (got _ _ _ refl (got _ _ _ refl (done_unless d.fit _ refl))))
+  passes_failed {f = Stop h} d x = bound_ends _ (attempt_stopped d) x
 
-  module _ (r : Ends (hub_check_connection attach hub port) w Ok tt v) {child : ℕ} (e : child ≡ byte_at v.store hub (child_field port)) where
-    pub passes_none : child ≡ 0 → Ends (scan_port attach below hub port) w Ok tt v
-    unfolding scan_port NotStop
-    passes_none z = bound _ (attempted r tt) (got_as _ _ _ e (got _ _ _ (done_unless _ (simp (eq-eqb child 0 z)) r.fit)))
+  module _ (d : Does (hub_check_connection attach hub port) b b₁ (Ok tt)) where
+    pub passes_none : byte_at b₁.store.now hub (child_field port) ≡ 0 → Does (scan_port attach below hub port) b b₁ (Ok tt)
+    unfolding scan_port
+    passes_none z = bound _ (attempted d tt) (got _ _ _ (sym z) (got _ _ _ refl (done_unless d.fit _ refl)))
 
-    pub passes_no_hub : (child ≡ 0 → ⊥) → byte_at v.store (child - 1) hub_field ≡ 0 → Ends (scan_port attach below hub port) w Ok tt v
-    unfolding scan_port NotStop
-    passes_no_hub n z = bound _ (attempted r tt) (got_as _ _ _ e (got _ _ _ (done_unless _ (simp (ne_eqb child 0 n, eq-eqb _ 0 z)) r.fit)))
+    module _ (place : ℕ) (e : byte_at b₁.store.now hub (child_field port) ≡ place + 1) where
+      pub passes_no_hub : byte_at b₁.store.now place hub_field ≡ 0 → Does (scan_port attach below hub port) b b₁ (Ok tt)
+      unfolding scan_port
+      passes_no_hub z =
+          let k : place + 1 - 1 ≡ place = omega arith in
+          bound _ (attempted d tt) (got _ _ _ (sym e) (rw k (got _ _ _ (sym z) (done_unless d.fit _ (simp (ne_eqb (place + 1) 0 (λ n. omega arith)))))))
 
-    pub goes_below : {u : World} {a : Answer} → (child ≡ 0 → ⊥) → (byte_at v.store (child - 1) hub_field ≡ 0 → ⊥)
-        → Ends (below (child - 1)) v a tt u → Ends (scan_port attach below hub port) w a tt u
-    unfolding scan_port NotStop
-    goes_below n z d = bound _ (attempted r tt) (got_as _ _ _ e (got _ _ _ (done_if (simp (ne_eqb child 0 n, ne_eqb _ 0 z)) d)))
+      pub goes_below : {b₂ : UsbBus} {r : Answer} → (byte_at b₁.store.now place hub_field ≡ 0 → ⊥)
+          → Does (below place) b₁ b₂ r → Does (scan_port attach below hub port) b b₂ r
+      unfolding scan_port
+      goes_below z m =
+          let k : place + 1 - 1 ≡ place = omega arith in
+          bound _ (attempted d tt) (got _ _ _ (sym e) (rw k (got _ _ _ refl (done_if (simp (ne_eqb (place + 1) 0 (λ n. omega arith), ne_eqb _ 0 z)) m))))
 
 -- a child stands above its hub, at a used place
-pub child_bus : (hub port child : ℕ) {v : World}
-    → Bus hub v → port < 10 → child ≡ byte_at v.store hub (child_field port) → (child ≡ 0 → ⊥) → (hub < child - 1) × Bus (child - 1) v
-child_bus hub port child {v} b l e n =
-    let a = b.good.child hub port l (λ z. n (e ∙ z)) in
-    let used : child - 1 < first_unused v.store = omega (arith, a.above, a.used, e) in
+pub child_bus : (hub port : ℕ) {place : ℕ} {v : World}
+    → Bus hub v → port < 10 → byte_at v.store hub (child_field port) ≡ place + 1 → (hub < place) × Bus place v
+child_bus hub port {place} {v} b l e =
+    let a = b.good.child hub port l (λ z. omega (arith, e, z)) in
+    let used : place < first_unused v.store = omega (arith, a.used, e) in
     (omega (arith, a.above, e), record { fit = b.fit; good = b.good; used = used; inside = omega (arith, used, first_most v.store) })
+
+-- the byte of a child that is there, and of none
+pub child_is : {place : ℕ} (child : ℕ) → Some place ≡ place_of child → child ≡ place + 1
+child_is {place} zero e = absurd (none-some place (sym e))
+child_is {place} (suc p) e = let same : place ≡ p = ap (λ (o : Option ℕ). unwrap_or o 0) e in omega (arith, same)
+
+pub no_child : (child : ℕ) → None ≡ place_of child → child ≡ 0
+no_child zero e = refl
+no_child (suc p) e = absurd (none-some p e)
+
+-- is the byte that of this child?
+pub is_child : (byte child : ℕ) → option_eq eqb (place_of byte) (Some child) ≡ eqb byte (child + 1)
+is_child zero child = sym (ne_eqb 0 (child + 1) (λ e. omega arith))
+is_child (suc place) child = let k : child + 1 ≡ suc child = omega arith in rw k (sym (eqb-suc-suc place child))
 
 -- ---- the ports of a hub, one after the other
 
@@ -61,21 +86,21 @@ abbrev pub scans_all : ℕ → ℕ → ℕ → ℕ → ℕ → M (Unit {0})
 scans_all n m hub count port = each count port (scan n m hub)
 
 -- places are left above the hub, so the number is not zero
-pub at_places : (n hub m : ℕ) {w v : World} {a : Answer} → hub < place_count → place_count ≤ hub + m
-    → ((k : ℕ) → place_count ≤ hub + suc k → Ends (get hub max_children_field >>= (λ count. scans_all n k hub count 0)) w a tt v)
-    → Ends (hub_check_for_change (attach_below n) m hub) w a tt v
+pub at_places : (n hub m : ℕ) {b b₁ : UsbBus} {r : Answer} → hub < place_count → place_count ≤ hub + m
+    → ((k : ℕ) → place_count ≤ hub + suc k → Does (get hub max_children_field >>= (λ count. scans_all n k hub count 0)) b b₁ r)
+    → Does (hub_check_for_change (attach_below n) m hub) b b₁ r
 unfolding hub_check_for_change
 at_places n hub zero h l f = absurd (omega arith)
 at_places n hub (suc k) h l f = f k l
 
-pub record Scanned (hub count port : ℕ) (w v : World) : Type 0 where
-  pub after : After hub w v
-  pub goes : (n m : ℕ) → free_places w.store ≤ n → place_count ≤ hub + suc m
-      → Going (scans_all n m hub count 0) w (scans_all n m hub (count - port) port) v
+pub record Scanned (hub count port : ℕ) (b b₁ : UsbBus) : Type 0 where
+  pub after : After hub (world b) (world b₁)
+  pub goes : (n m : ℕ) → free_places b.store.now ≤ n → place_count ≤ hub + suc m
+      → Going (scans_all n m hub count 0) b (scans_all n m hub (count - port) port) b₁
 
 scan_walks : {u : World} (free above n hub port : ℕ) → hub < n → port < 10 → Alike u n (scan free above hub port) (scan free above hub port)
 scan_walks free above n hub port h l = scan-port free hub port h l (λ v place _. check_for_change free v above place)
 
-pub scanned_after : (n m : ℕ) {hub : ℕ} (port : ℕ) {w v : World} {a : Answer} → Bus hub w → port < 10
-    → Ends (scan n m hub port) w a tt v → After hub w v
-scanned_after n m {hub} port {w} b l e = after b ((scan_walks n m (hub + 1) hub port (omega arith) l).run w (at_place b)).walk e
+pub scanned_after : (n m : ℕ) {hub : ℕ} (port : ℕ) {b b₁ : UsbBus} {r : Answer} → OnBus hub b → port < 10
+    → Does (scan n m hub port) b b₁ r → After hub (world b) (world b₁)
+scanned_after n m {hub} port {b} on l d = after on ((scan_walks n m (hub + 1) hub port (omega arith) l).run (world b) (at_place on)).walk d

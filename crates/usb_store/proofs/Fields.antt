@@ -9,7 +9,7 @@ use native.Mathlib.Omega.{arith}
 use lib.ListN.{length, get_or, drop, length-take, length-drop}
 use lib.Seq.{get_or-take, get_or-drop, ext_get_or}
 use Rattle.usb_types.specs.Numbers.{little_endian, from_little_endian, number_in}
-use Rattle.usb_types.proofs.LittleEndian.{length_le, from_le, number_2 as in-list-2, number_4 as in-list-4}
+use Rattle.usb_types.proofs.LittleEndian.{length_le, from_le, number_4 as in-list-4}
 use Rattle.usb_store.specs.Access.{offset, Within, byte_at, bytes_at, with_byte, with_bytes, number_at, with_number}
 use Rattle.usb_store.proofs.Writes.{length_write, write_same, write_other}
 
@@ -115,10 +115,6 @@ module _ (s : List ℕ) (p f : ℕ) where
   next_byte : (k : ℕ) → byte_at s p (f + k) ≡ get_or s (offset p f + k) 0
   unfolding byte_at
   next_byte k = rw (← add_assoc (p * 1152) f k)
-
-  pub number_2 : Within s p f 2 → number_at s p f 2 ≡ byte_at s p f + byte_at s p (f + 1) * 256
-  unfolding bytes_at number_in byte_at
-  number_2 w = rw (next_byte 1) (in-list-2 s (offset p f) (omega arith))
 
   pub number_4 : Within s p f 4
       → number_at s p f 4 ≡ byte_at s p f + byte_at s p (f + 1) * 256 + byte_at s p (f + 2) * 65536 + byte_at s p (f + 3) * 16777216

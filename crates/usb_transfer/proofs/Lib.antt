@@ -1,4 +1,4 @@
-pub mod Regroups
 pub mod Steps
+pub mod Regroups
 pub mod Logged
 pub mod Outcomes

@@ -1,77 +1,82 @@
--- The ways through the functions of the log, over plain values. Assumes nothing.
-use mathlib.Core.Path.{◌≡◌, refl, sym, ap, ◌∙◌}
-use mathlib.Core.List.{List, []}
-use Prim.Native.Nat.{ℕ, ◌+◌, ◌-◌, ◌≤◌, ◌<◌}
-use native.Mathlib.Omega.{arith}
-use borrow.Author.Tests.{lt-ltb, le-ltb}
-use lib.ListN.{length}
+-- The functions of the log, over plain values. Assumes nothing.
+use Rattle.std.specs.Prelude.{◌≡◌, List, ℕ, ◌+◌, ◌-◌, ◌≤◌, ◌<◌, length, Ok, Err, IsErr, IsErrAnd}
+use Rattle.std.specs.Borrow.{Bor}
+use Rattle.std.proofs.Common.{arith, ap, sym, refl, subst, ◌∙◌, lt-ltb, le-ltb}
+use Rattle.usb_types.specs.Answers.{Answer}
+use Rattle.usb_types.specs.declared.types.Failure.{Failure}
 use Rattle.usb_types.specs.declared.types.Halt.TheVariants.{LogFull}
-use Rattle.usb_types.specs.declared.types.Answer.{Answer}
-use Rattle.usb_types.specs.declared.types.Answer.TheVariants.{Ok, Stop}
+use Rattle.usb_types.specs.declared.types.Failure.TheVariants.{Stop}
 use Rattle.usb_store.specs.Access.{write}
 use Rattle.usb_model.specs.declared.Progress.{Progress}
-use Rattle.usb_model.specs.Programs.{Ran, done, ◌>>=◌, ◌>>◌, stop, skip, look, change, when, end_of}
-use Rattle.usb_model.specs.World.{World, M, log_action, log_request, counted}
-use Rattle.usb_model.proofs.Ways.{Logs, full, logged as was-logged, log_ends}
-use Rattle.usb_transfer.specs.Runs.{here, Fit, Ends, Room, Writes}
-use Rattle.usb_transfer.proofs.Steps.{NotOk, then_is, on_ended}
+use Rattle.usb_model.specs.Programs.{Ran, done, on, ran, ◌>>=◌, ◌>>◌, stop, skip, look, change, when, end_of}
+use Rattle.usb_model.specs.World.{World, log_action, log_request, appended, counted}
+use Rattle.usb_model.proofs.Ways.{Logs as Was-logged, full, logged as was-logged, log_ends}
+use Rattle.usb_transfer.specs.declared.bus.UsbBus.{UsbBus}
+use Rattle.usb_transfer.specs.Runs.{world, Fit, Room, Logs, Ready, Lends}
+use Rattle.usb_transfer.proofs.Steps.{lends_still, lends_on, on_failed, exit}
 
-module _ (l : List ℕ) (at : Progress) (action : List ℕ) (r : Room l at) where
-  pub action_full : length l - at.logged < 16 → Writes (log_action action) l at (Stop LogFull) l at
+module _ {b : UsbBus} (action : List ℕ) (r : Room b) where
+  pub action_full : length b.log.now - b.at.logged < 16 → Logs (log_action action) b b (Err (Stop LogFull))
   unfolding log_action ◌>>=◌ ◌>>◌ look when stop
-  action_full h = record { is = λ s o. simp (lt-ltb _ _ h); room = r; taken = refl }
+  action_full h = record { is = simp (lt-ltb _ _ h); room = r; taken = refl; fit = λ f. f; lends = lends_still b }
 
-  pub action_logged : 16 ≤ length l - at.logged → (l' : List ℕ) → l' ≡ write l at.logged action → length l' ≡ length l
-      → Writes (log_action action) l at Ok l' (record { logged = at.logged + 16; taken = at.taken; requests = at.requests })
+  pub action_logged : {b' : UsbBus} → 16 ≤ length b.log.now - b.at.logged → b'.store.now ≡ b.store.now
+      → b'.log.now ≡ write b.log.now b.at.logged action → length b'.log.now ≡ length b.log.now
+      → b'.at ≡ record { logged = b.at.logged + 16; taken = b.at.taken; requests = b.at.requests }
+      → Lends b b' → Logs (log_action action) b b' (Ok tt)
   unfolding log_action ◌>>=◌ ◌>>◌ look when skip change
-  action_logged h l' e n = record {
-    is = λ s o. simp (le-ltb _ _ h, e);
-    room = record { logged = omega (arith, n); counted = omega arith };
-    taken = refl;
-  }
+  action_logged {b'} h s l n a k =
+      let o : b'.outcomes.now ≡ b.outcomes.now = ap (λ (o : Bor (List ℕ)). o.now) k.outcomes in
+      let same : appended action (world b) ≡ world b' = simp (s, l, a, o) in
+      let at : b'.at.logged ≡ b.at.logged + 16 = ap (λ (p : Progress). p.logged) a in
+      let sent : b'.at.requests ≡ b.at.requests = ap (λ (p : Progress). p.requests) a in
+      let room : Room b' = record { logged = omega (arith, at, n, h, r.logged); counted = omega (arith, at, sent, r.counted) } in
+      record {
+        is = simp (le-ltb _ _ h) (ap (done tt) same);
+        room = room;
+        taken = ap (λ (p : Progress). p.taken) a;
+        fit = λ f. record { whole = ap length s ∙ f.whole; logged = room.logged; taken = rw (a, o) f.taken; counted = room.counted };
+        lends = k;
+      }
 
 -- where an action was logged
-logged_at : (action l l' : List ℕ) (at at' : Progress) → log_action action (here [] l [] at) ≡ done tt (here [] l' [] at')
-    → at' ≡ record { logged = at.logged + 16; taken = at.taken; requests = at.requests }
-logged_at action l l' at at' e = go (log_ends action (here [] l [] at)) e
+logged_at : (action : List ℕ) (w : World) {v : World} → log_action action w ≡ done tt v
+    → v.at ≡ record { logged = w.at.logged + 16; taken = w.at.taken; requests = w.at.requests }
+logged_at action w {v} e = go (log_ends action w) e
   where
-    go : {r : Ran World (Unit {0})} → Logs action (here [] l [] at) at.requests r → r ≡ done tt (here [] l' [] at')
-        → at' ≡ record { logged = at.logged + 16; taken = at.taken; requests = at.requests }
+    go : {r : Ran World (Unit {0})} → Was-logged action w w.at.requests r → r ≡ done tt v
+        → v.at ≡ record { logged = w.at.logged + 16; taken = w.at.taken; requests = w.at.requests }
     go full e = let z : ◌≡◌ {A = ℕ} 0 1 = cc in absurd (omega arith)
     go (was-logged room) e = sym (ap (λ (r : Ran World (Unit {0})). (end_of r).at) e)
 
-module _ (l : List ℕ) (at : Progress) (action l' : List ℕ) (at' : Progress) where
-  pub request_ended : (a : Answer) → Writes (log_action action) l at a l' at' → NotOk a → Writes (log_request action) l at a l' at'
-  unfolding log_request
-  request_ended a r n = record {
-    is = λ s o. then_is (log_action action) _ _ (r.is s o) (change counted) ∙ on_ended a tt tt _ (λ _. change counted) n;
-    room = r.room;
-    taken = r.taken;
-  }
+-- an action that was logged counts as a request
+pub request_logged : (action : List ℕ) {b b₁ b' : UsbBus} → Room b → Logs (log_action action) b b₁ (Ok tt)
+    → world b' ≡ counted (world b₁) → Lends b₁ b' → Logs (log_request action) b b' (Ok tt)
+unfolding log_request change ◌>>◌
+request_logged action {b} {b₁} {b'} r d same k =
+    let at = logged_at action (world b) d.is in
+    let logged = ap (λ (p : Progress). p.logged) at in
+    let requests = ap (λ (p : Progress). p.requests) at in
+    let places : (b'.at.logged ≡ b₁.at.logged) × (length b'.log.now ≡ length b₁.log.now) × (b'.at.requests ≡ b₁.at.requests + 1) =
+    (ap (λ (w : World). w.at.logged) same, ap (λ (w : World). length w.log) same, ap (λ (w : World). w.at.requests) same) in
+    let counts : b₁.at.requests + 1 ≤ b₁.at.logged = omega (arith, logged, requests, r.counted) in
+    record {
+      is = ap (λ (x : Ran World (Unit {0})). on x (λ _. change counted)) d.is ∙ ap (done tt) (sym same);
+      room = record { logged = omega (arith, places.0, places.1, d.room.logged); counted = omega (arith, places.0, places.2, counts) };
+      taken = ap (λ (w : World). w.at.taken) same ∙ d.taken;
+      fit = λ f. let g = d.fit f in subst Fit (sym same) (record { whole = g.whole; logged = g.logged; taken = g.taken; counted = counts });
+      lends = lends_on d.lends k;
+    }
 
-  pub request_logged : Writes (log_action action) l at Ok l' at' → Room l at
-      → Writes (log_request action) l at Ok l' (record { logged = at'.logged; taken = at'.taken; requests = at'.requests + 1 })
-  unfolding log_request change
-  request_logged r room =
-      let further = logged_at action l l' at at' (r.is [] []) in
-      let requests = ap (λ (p : Progress). p.requests) further in
-      let bytes = ap (λ (p : Progress). p.logged) further in
-      record {
-        is = λ s o. then_is (log_action action) _ _ (r.is s o) (change counted);
-        room = record { logged = r.room.logged; counted = omega (arith, requests, bytes, room.counted) };
-        taken = r.taken;
-      }
-
-pub fit_after : {m : M (Unit {0})} {s l o l' : List ℕ} {at at' : Progress} {a : Answer}
-    → Writes m l at a l' at' → Fit (here s l o at) → Fit (here s l' o at')
-fit_after r f = record {
-  whole = f.whole;
-  logged = r.room.logged;
-  taken = omega (arith, r.taken, f.taken);
-  counted = r.room.counted;
+-- an action for which no room was left
+pub request_unlogged : (action : List ℕ) {b b₁ : UsbBus} {f : Failure} {r : Answer} → Logs (log_action action) b b₁ (Err f)
+    → IsErr r × IsErrAnd r (λ g. g ≡ f) → Logs (log_request action) b b₁ r
+unfolding log_request ◌>>◌
+request_unlogged action {b} {b₁} {f} {r} d e = record {
+  is = ap (λ (x : Ran World (Unit {0})). on x (λ _. change counted)) d.is ∙ on_failed f b₁ (λ _. change counted)
+      ∙ ap (λ (r : Answer). ran r (world b₁)) (sym (exit r e));
+  room = d.room;
+  taken = d.taken;
+  fit = d.fit;
+  lends = d.lends;
 }
-
--- what a function of the log promises, of a world
-pub logged : {m : M (Unit {0})} {l l' : List ℕ} {s o : List ℕ} {at at' : Progress} {a : Answer}
-    → Writes m l at a l' at' → Fit (here s l o at) → Ends m (here s l o at) a tt (here s l' o at')
-logged {s = s} {o = o} r f = record { is = r.is s o; fit = fit_after r f }

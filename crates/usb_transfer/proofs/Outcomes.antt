@@ -2,19 +2,17 @@
 use mathlib.Core.Path.{◌≡◌, refl}
 use mathlib.Core.Bool.{Bool, true, false, ◌&&◌, ◌||◌}
 use mathlib.Core.List.{List}
-use Prim.Native.Nat.{ℕ, ◌+◌, ◌-◌, ◌*◌, ◌≤◌, ◌<◌}
+use Prim.Native.Nat.{ℕ, ◌+◌, ◌*◌, ◌≤◌, ◌<◌}
 use native.Mathlib.Omega.{arith}
 use borrow.Author.Tests.{lt-ltb, le-ltb, ltb-true, eqb-true}
 use lib.Dec.{eqb, ltb}
-use lib.ListN.{length, get_or, take, drop, length-drop}
-use lib.Seq.{take_all}
+use lib.ListN.{length, get_or}
 use Rattle.usb_types.proofs.LittleEndian.{number_2}
 use Rattle.usb_types.specs.Outcomes.{listed}
 use Rattle.usb_types.specs.declared.types.Halt.TheVariants.{GarbledOutcome, OutcomesSpent}
 use Rattle.usb_model.specs.Programs.{◌>>=◌, ◌>>◌, return, stop, skip, look, change, when}
 use Rattle.usb_model.specs.Transfer.{size_of, take_outcome}
-use Rattle.usb_transfer.specs.declared.outcome.NextOutcome.{NextOutcome}
-use Rattle.usb_transfer.specs.declared.outcome.NextOutcome.TheVariants.{Whole, Missing}
+use Rattle.std.specs.Prelude.{Ok, Err}
 use Rattle.usb_transfer.specs.Outcomes.{Takes}
 
 pub size_is : (rest : List ℕ) → 4 ≤ length rest → size_of rest ≡ get_or rest 2 0 + get_or rest 3 0 * 256
@@ -39,28 +37,24 @@ listed_error s e h = go (ltb s 10) (ltb e 10) (eqb e 31) (ltb-true e 10) (eqb-tr
     go false b d f g h = let z : ◌≡◌ {A = ℕ} 0 1 = cc in omega arith
 
 module _ (rest : List ℕ) where
-  pub takes_none : length rest < 4 → Takes rest (Missing OutcomesSpent)
+  pub takes_none : length rest < 4 → Takes rest (Err OutcomesSpent)
   unfolding take_outcome ◌>>=◌ ◌>>◌ look when stop
   takes_none h = record { is = λ asked w e. simp (e, lt-ltb _ _ h); good = tt }
 
   module _ (h : 4 ≤ length rest) where
-    pub takes_garbled : listed (get_or rest 0 0) (get_or rest 1 0) ≡ false → Takes rest (Missing GarbledOutcome)
+    pub takes_garbled : listed (get_or rest 0 0) (get_or rest 1 0) ≡ false → Takes rest (Err GarbledOutcome)
     unfolding take_outcome ◌>>=◌ ◌>>◌ look when stop skip
     takes_garbled g = record { is = λ asked w e. simp (e, le-ltb _ _ h, g); good = tt }
 
     module _ (g : listed (get_or rest 0 0) (get_or rest 1 0) ≡ true) where
-      pub takes_cut : length rest < 4 + size_of rest → Takes rest (Missing OutcomesSpent)
+      pub takes_cut : length rest < 4 + size_of rest → Takes rest (Err OutcomesSpent)
       unfolding take_outcome ◌>>=◌ ◌>>◌ look when stop skip
       takes_cut l = record { is = λ asked w e. simp (e, le-ltb _ _ h, g, lt-ltb _ _ l); good = tt }
 
       pub takes_whole : 4 + size_of rest ≤ length rest → size_of rest < 65536
-          → Takes rest (Whole (record { submit = get_or rest 0 0; error = get_or rest 1 0; size = size_of rest }))
+          → Takes rest (Ok (record { submit = get_or rest 0 0; error = get_or rest 1 0; size = size_of rest }))
       unfolding take_outcome ◌>>=◌ ◌>>◌ look when skip change return
       takes_whole l small = record {
         is = λ asked w e. simp (e, le-ltb _ _ h, g, le-ltb _ _ l);
         good = record { submit = listed_submit _ _ g; error = listed_error _ _ g; small = small; inside = l };
       }
-
--- what is left of the outcomes, as a part of their slice
-pub takes_left : (o : List ℕ) (t : ℕ) (r r' : NextOutcome) → Takes (take (length o - t) (drop t o)) r → r ≡ r' → Takes (drop t o) r'
-takes_left o t r r' k e = rw e at (rw (take_all (length o - t) (drop t o) (omega (arith, length-drop t o))) at k)

@@ -1,9 +1,11 @@
 -- Programs that run alike: lines under a name of their own, then the rest, are the lines and the rest. Assumes nothing.
-use mathlib.Core.Path.{◌≡◌, refl, sym, ◌∙◌}
-use Rattle.usb_types.specs.declared.types.Answer.{Answer}
+use Rattle.std.specs.Prelude.{◌≡◌, Result, refl}
+use Rattle.std.proofs.Common.{sym, ◌∙◌}
+use Rattle.usb_types.specs.declared.types.Failure.{Failure}
 use Rattle.usb_model.specs.Programs.{Ran, done, fail, halt, on, ◌>>=◌, ◌>>◌, return}
 use Rattle.usb_model.specs.World.{World, M}
-use Rattle.usb_transfer.specs.Runs.{Ends}
+use Rattle.usb_transfer.specs.declared.bus.UsbBus.{UsbBus}
+use Rattle.usb_transfer.specs.Runs.{Does}
 
 -- two programs that run alike
 pub record Same {A : Type 0} (m m' : M A) : Type 0 where
@@ -18,8 +20,8 @@ back p = record { is = λ w. sym (p.is w) }
 pub join : {A : Type 0} {a b c : M A} → Same a b → Same b c → Same a c
 join p q = record { is = λ w. p.is w ∙ q.is w }
 
-pub ends_as : {A : Type 0} {m m' : M A} {w v : World} {a : Answer} {x : A} → Same m m' → Ends m w a x v → Ends m' w a x v
-ends_as s e = record { is = sym (s.is _) ∙ e.is; fit = e.fit }
+pub does_as : {A : Type 0} {m m' : M A} {b b' : UsbBus} {r : Result A Failure} → Same m m' → Does m b b' r → Does m' b b' r
+does_as s d = record { is = sym (s.is _) ∙ d.is; fit = d.fit; lends = d.lends }
 
 -- ---- what comes after lines under a name comes after the last of them
 
@@ -49,3 +51,7 @@ module _ {A B C : Type 0} (m : M A) where
 pub given : {A B : Type 0} (x : A) (k : A → M B) → Same (return x >>= k) (k x)
 unfolding return ◌>>=◌
 given x k = record { is = λ w. refl }
+
+-- two statements that are a function of their own
+pub grouped : {A B C : Type 0} (a : M A) (l : M B) (k : M C) {b b' : UsbBus} {r : Result C Failure} → Does ((a >> l) >> k) b b' r → Does (a >> (l >> k)) b b' r
+grouped a l k d = does_as (next_next a l k (same _)) d

@@ -1,12 +1,12 @@
 -- What a call answers, with the numbers of document 01's table, "What a call answers".
-use Rattle.std.specs.Prelude.{ℤ}
+use Rattle.std.specs.Prelude.{ℤ, Result, Ok, Err}
 use Rattle.usb_types.specs.Numbers.{minus}
 use Rattle.usb_types.specs.declared.types.ErrorCode.{ErrorCode}
 use Rattle.usb_types.specs.declared.types.ErrorCode.TheVariants.{General, Argument, Retry, Device, Incompatible, Compiler, Memory, Timeout, Disconnected, GarbledConfiguration, BusFull}
 use Rattle.usb_types.specs.declared.types.Halt.{Halt}
 use Rattle.usb_types.specs.declared.types.Halt.TheVariants.{GarbledOutcome, OutcomesSpent, LogFull}
-use Rattle.usb_types.specs.declared.types.Answer.{Answer}
-use Rattle.usb_types.specs.declared.types.Answer.TheVariants.{Ok, Error, Stop}
+use Rattle.usb_types.specs.declared.types.Failure.{Failure}
+use Rattle.usb_types.specs.declared.types.Failure.TheVariants.{Error, Stop}
 use Rattle.usb_types.specs.declared.types.Refusal.{Refusal}
 use Rattle.usb_types.specs.declared.types.Refusal.TheVariants.{BadArgument, StoreDamaged, AlreadyAttached, RootSpeed}
 
@@ -30,10 +30,14 @@ halt_number GarbledOutcome = minus 13
 halt_number OutcomesSpent = minus 14
 halt_number LogFull = minus 15
 
+-- what a function of the driver answers
+abbrev pub Answer : Type 0
+Answer = Result (Unit {0}) Failure
+
 abbrev pub answer_number : Answer → ℤ
-answer_number Ok = minus 0
-answer_number (Error e) = error_number e
-answer_number (Stop h) = halt_number h
+answer_number (Ok _) = minus 0
+answer_number (Err (Error e)) = error_number e
+answer_number (Err (Stop h)) = halt_number h
 
 -- "Order at entry": −2; then −16; then, for root attach, already attached −4, and −12
 abbrev pub refusal_number : Refusal → ℤ

@@ -2,7 +2,7 @@
 ghost use Rattle.std.specs.Prelude.{◌≡◌};
 ghost use Rattle.usb_types.specs.Descriptors.{kind_of, is_hub_class};
 
-// bDescriptorType, USB 2.0 tables 9-5 and 11-13.
+// bDescriptorType, USB 2.0 tables 9-5 and 11-13. Numbers: a descriptor read takes each u8, and an enum would take fewer.
 pub const DEVICE_DESCRIPTOR: u8 = 1;
 
 pub const CONFIGURATION_DESCRIPTOR: u8 = 2;

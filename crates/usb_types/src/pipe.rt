@@ -17,6 +17,9 @@ pub struct UsbPipeAddress {
 pub fn request_action(pipe: UsbPipeAddress, request: UsbDeviceRequest) -> [u8; ACTION_LEN]
     ensures { result ≡ request_action pipe request }
 {
+    let [value_low, value_high] = request.value.to_le_bytes();
+    let [index_low, index_high] = request.index.to_le_bytes();
+    let [length_low, length_high] = request.length.to_le_bytes();
     [
         1,
         pipe.device,
@@ -28,36 +31,20 @@ pub fn request_action(pipe: UsbPipeAddress, request: UsbDeviceRequest) -> [u8; A
         0,
         request.request_type,
         request.request,
-        (request.value % 256) as u8,
-        (request.value / 256) as u8,
-        (request.index % 256) as u8,
-        (request.index / 256) as u8,
-        (request.length % 256) as u8,
-        (request.length / 256) as u8,
+        value_low,
+        value_high,
+        index_low,
+        index_high,
+        length_low,
+        length_high,
     ]
 }
 
 pub fn wait_action(microseconds: u32) -> [u8; ACTION_LEN]
     ensures { result ≡ wait_action microseconds }
 {
-    [
-        2,
-        0,
-        0,
-        0,
-        0,
-        0,
-        0,
-        0,
-        (microseconds % 256) as u8,
-        (microseconds / 256 % 256) as u8,
-        (microseconds / 65536 % 256) as u8,
-        (microseconds / 16777216) as u8,
-        0,
-        0,
-        0,
-        0,
-    ]
+    let [b0, b1, b2, b3] = microseconds.to_le_bytes();
+    [2, 0, 0, 0, 0, 0, 0, 0, b0, b1, b2, b3, 0, 0, 0, 0]
 }
 
 pub fn frame_interval_action() -> [u8; ACTION_LEN]

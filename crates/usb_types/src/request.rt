@@ -2,7 +2,7 @@
 ghost use Rattle.std.specs.Prelude.{◌≡◌, ◌<◌};
 ghost use Rattle.usb_types.specs.Requests.{direction_of, direction_bit, device_request};
 
-// bRequest, USB 2.0 table 9-4.
+// bRequest, USB 2.0 table 9-4. Numbers: `device_request` takes each u8, and an enum as its parameter would take fewer.
 pub const GET_STATUS: u8 = 0;
 
 pub const CLEAR_FEATURE: u8 = 1;
@@ -15,7 +15,7 @@ pub const GET_DESCRIPTOR: u8 = 6;
 
 pub const SET_CONFIGURATION: u8 = 9;
 
-// Type and recipient of bmRequestType, USB 2.0 tables 9-2 and 11-15.
+// Type and recipient of bmRequestType, USB 2.0 tables 9-2 and 11-15. Numbers, as the codes are.
 pub const DEVICE: u8 = 0x00;
 
 pub const HUB: u8 = 0x20;
@@ -43,7 +43,7 @@ pub fn direction_of(request: u8) -> u8
     }
 }
 
-// Bit 7 of bmRequestType: 1 In, 0 Out.
+// Bit 7 of bmRequestType: 1 In, 0 Out. A number, as `direction_of` gives: an action and the packet show it as one.
 #[tactic(auto, unfolding(crate::specs::Requests::direction_bit))]
 pub fn direction_bit(kind: u8) -> u8
     ensures { result ≡ direction_bit kind }

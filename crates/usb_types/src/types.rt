@@ -1,18 +1,12 @@
 // types.rs: what a call answers, and what an outcome's two codes and a packet size stand for.
 ghost use Rattle.std.specs.Prelude.{◌≡◌, ◌<◌};
+ghost use Rattle.usb_types.specs.declared.types.Failure.TheVariants.{Error, Stop};
 ghost use Rattle.usb_types.specs.Answers.{error_number, halt_number, answer_number, refusal_number};
 ghost use Rattle.usb_types.specs.Outcomes.{listed, error_word, result_of};
 ghost use Rattle.usb_types.specs.Actions.{packet_size};
 
-// A byte as a number to count and index with.
-pub fn wide(b: u8) -> usize
-    ensures { (result ≡ b) × (result < 256) }
-{
-    b as usize
-}
-
 // ResultCode -1 to -9, and the two codes of document 01 that travel upward as these do.
-#[derive(Clone, Copy)]
+#[derive(Clone, Copy, Debug, PartialEq, Eq)]
 pub enum ErrorCode {
     General,
     Argument,
@@ -28,23 +22,22 @@ pub enum ErrorCode {
 }
 
 // What stops the whole call.
-#[derive(Clone, Copy)]
+#[derive(Clone, Copy, Debug, PartialEq, Eq)]
 pub enum Halt {
     GarbledOutcome,
     OutcomesSpent,
     LogFull,
 }
 
-// What a function of the driver answers.
-#[derive(Clone, Copy)]
-pub enum Answer {
-    Ok,
+// Why a function of the driver did not end well.
+#[derive(Clone, Copy, Debug, PartialEq, Eq)]
+pub enum Failure {
     Error(ErrorCode),
     Stop(Halt),
 }
 
-// What an entry point answers before it does anything.
-#[derive(Clone, Copy)]
+// Why an entry point does nothing.
+#[derive(Clone, Copy, Debug, PartialEq, Eq)]
 pub enum Refusal {
     BadArgument,
     StoreDamaged,
@@ -52,67 +45,90 @@ pub enum Refusal {
     RootSpeed,
 }
 
-pub fn error_number(e: ErrorCode) -> i32
-    ensures { result ≡ error_number e }
-{
-    match e {
-        ErrorCode::General => -1,
-        ErrorCode::Argument => -2,
-        ErrorCode::Retry => -3,
-        ErrorCode::Device => -4,
-        ErrorCode::Incompatible => -5,
-        ErrorCode::Compiler => -6,
-        ErrorCode::Memory => -7,
-        ErrorCode::Timeout => -8,
-        ErrorCode::Disconnected => -9,
-        ErrorCode::GarbledConfiguration => -10,
-        ErrorCode::BusFull => -11,
+impl From<ErrorCode> for Failure {
+    ghost from_gives = { λ e r. r ≡ Error e };
+
+    fn from(error: ErrorCode) -> Failure {
+        Failure::Error(error)
     }
 }
 
-pub fn halt_number(h: Halt) -> i32
-    ensures { result ≡ halt_number h }
-{
-    match h {
-        Halt::GarbledOutcome => -13,
-        Halt::OutcomesSpent => -14,
-        Halt::LogFull => -15,
+impl From<Halt> for Failure {
+    ghost from_gives = { λ h r. r ≡ Stop h };
+
+    fn from(halt: Halt) -> Failure {
+        Failure::Stop(halt)
     }
 }
 
-pub fn answer_number(a: Answer) -> i32
-    ensures { result ≡ answer_number a }
-{
-    match a {
-        Answer::Ok => 0,
-        Answer::Error(e) => error_number(e),
-        Answer::Stop(h) => halt_number(h),
+impl From<ErrorCode> for i32 {
+    ghost from_gives = { λ e r. r ≡ error_number e };
+
+    fn from(error: ErrorCode) -> i32 {
+        match error {
+            ErrorCode::General => -1,
+            ErrorCode::Argument => -2,
+            ErrorCode::Retry => -3,
+            ErrorCode::Device => -4,
+            ErrorCode::Incompatible => -5,
+            ErrorCode::Compiler => -6,
+            ErrorCode::Memory => -7,
+            ErrorCode::Timeout => -8,
+            ErrorCode::Disconnected => -9,
+            ErrorCode::GarbledConfiguration => -10,
+            ErrorCode::BusFull => -11,
+        }
     }
 }
 
-pub fn refusal_number(r: Refusal) -> i32
-    ensures { result ≡ refusal_number r }
+impl From<Halt> for i32 {
+    ghost from_gives = { λ h r. r ≡ halt_number h };
+
+    fn from(halt: Halt) -> i32 {
+        match halt {
+            Halt::GarbledOutcome => -13,
+            Halt::OutcomesSpent => -14,
+            Halt::LogFull => -15,
+        }
+    }
+}
+
+impl From<Refusal> for i32 {
+    ghost from_gives = { λ f r. r ≡ refusal_number f };
+
+    fn from(refusal: Refusal) -> i32 {
+        match refusal {
+            Refusal::BadArgument => -2,
+            Refusal::StoreDamaged => -16,
+            Refusal::AlreadyAttached => -4,
+            Refusal::RootSpeed => -12,
+        }
+    }
+}
+
+// The number of what a function of the driver answered. A function: no `From` can be written between two types of std.
+pub fn answer_number(answer: Result<(), Failure>) -> i32
+    ensures { result ≡ answer_number answer }
 {
-    match r {
-        Refusal::BadArgument => -2,
-        Refusal::StoreDamaged => -16,
-        Refusal::AlreadyAttached => -4,
-        Refusal::RootSpeed => -12,
+    match answer {
+        Ok(()) => 0,
+        Err(Failure::Error(error)) => i32::from(error),
+        Err(Failure::Stop(halt)) => i32::from(halt),
     }
 }
 
 // The submit code as ResultCode 0 to -9.
-const SUBMIT_RESULTS: [Answer; 10] = [
-    Answer::Ok,
-    Answer::Error(ErrorCode::General),
-    Answer::Error(ErrorCode::Argument),
-    Answer::Error(ErrorCode::Retry),
-    Answer::Error(ErrorCode::Device),
-    Answer::Error(ErrorCode::Incompatible),
-    Answer::Error(ErrorCode::Compiler),
-    Answer::Error(ErrorCode::Memory),
-    Answer::Error(ErrorCode::Timeout),
-    Answer::Error(ErrorCode::Disconnected),
+const SUBMIT_RESULTS: [Result<(), Failure>; 10] = [
+    Ok(()),
+    Err(Failure::Error(ErrorCode::General)),
+    Err(Failure::Error(ErrorCode::Argument)),
+    Err(Failure::Error(ErrorCode::Retry)),
+    Err(Failure::Error(ErrorCode::Device)),
+    Err(Failure::Error(ErrorCode::Incompatible)),
+    Err(Failure::Error(ErrorCode::Compiler)),
+    Err(Failure::Error(ErrorCode::Memory)),
+    Err(Failure::Error(ErrorCode::Timeout)),
+    Err(Failure::Error(ErrorCode::Disconnected)),
 ];
 
 // UsbTransferError by its bit number: none at 0, then the bit.
@@ -151,15 +167,15 @@ pub fn error_word(error: u8) -> u32
 
 // The result of UsbControlMessage.
 #[tactic(auto, unfolding(crate::specs::Outcomes::result_of))]
-pub fn result_of(submit: u8, error: u8) -> Answer
+pub fn result_of(submit: u8, error: u8) -> Result<(), Failure>
     requires { submit < 10 }
     ensures { result ≡ result_of submit error }
 {
     if submit == 0 {
         match error {
-            0 => Answer::Ok,
-            31 => Answer::Error(ErrorCode::Timeout),
-            _ => Answer::Error(ErrorCode::Device),
+            0 => Ok(()),
+            31 => Err(Failure::Error(ErrorCode::Timeout)),
+            _ => Err(Failure::Error(ErrorCode::Device)),
         }
     } else {
         let code = submit as usize;
@@ -167,7 +183,7 @@ pub fn result_of(submit: u8, error: u8) -> Answer
     }
 }
 
-// UsbPacketSize by its number: 0 to 3 for 8, 16, 32 and 64 bytes.
+// UsbPacketSize by its number: 0 to 3 for 8, 16, 32 and 64 bytes. A number: `UsbPipeAddress` takes each u8.
 #[tactic(auto, unfolding(crate::specs::Actions::packet_size))]
 pub fn size_from_number(size: u8) -> u8
     ensures { result ≡ packet_size size }

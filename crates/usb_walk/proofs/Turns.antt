@@ -2,6 +2,8 @@
 use mathlib.Core.Path.{◌≡◌, refl, sym, ap, ◌∙◌}
 use mathlib.Core.Bool.{Bool, false}
 use mathlib.Core.List.{List, [], ◌∷◌}
+use Rattle.std.specs.Prelude.{None, Some, Result, Ok, Err, IsErr, IsErrAnd}
+use Rattle.std.proofs.lemmas.Result.{err_from_is_err_and}
 use Prim.Native.Nat.{ℕ, suc, ◌+◌, ◌-◌, ◌≤◌, ◌<◌}
 use native.Mathlib.Nat.{add-zero}
 use native.Mathlib.Omega.{arith}
@@ -9,20 +11,17 @@ use lib.ListN.{length, get_or, take, drop, length-drop, drop_of_length-le}
 use lib.Seq.{take_all, drop-drop, get_or-drop}
 use Rattle.usb_types.specs.declared.types.ErrorCode.{ErrorCode}
 use Rattle.usb_types.specs.declared.types.ErrorCode.TheVariants.{GarbledConfiguration}
-use Rattle.usb_types.specs.declared.types.Answer.TheVariants.{Ok, Error}
 use Rattle.usb_model.specs.Programs.{on, Program, ◌>>=◌, skip, throw, when}
 use Rattle.usb_model.specs.Walk.{Walk, max_interfaces, max_endpoints, record_length, begin, descriptor, walk_from, walk_all, walked, walk}
 use Rattle.usb_model.proofs.Record.{walk_fuel, walk_enough}
 use Rattle.usb_walk.specs.declared.Last.{Last}
-use Rattle.usb_walk.specs.declared.Next.{Next}
-use Rattle.usb_walk.specs.declared.Next.TheVariants.{On, End, Refused}
-use Rattle.usb_walk.specs.Steps.{Ready, Goes, state, goes, ends_with}
+use Rattle.usb_walk.specs.Steps.{Next, Ready, Goes, state, goes, ends_with}
 
 pub record Walking (descriptors before kept : List ℕ) (offset : ℕ) (last : Last) : Type 0 where
   pub is : walked (walk_from (suc (length descriptors)) (drop offset descriptors) (state kept last)) ≡ walk descriptors before
   pub ready : Ready kept last
 
-pub starts_empty : (d kept : List ℕ) → length d ≡ 0 → ends_with (Error GarbledConfiguration) kept ≡ walk d kept
+pub starts_empty : (d kept : List ℕ) → length d ≡ 0 → ends_with (Err GarbledConfiguration) kept ≡ walk d kept
 unfolding walk walk_all throw
 starts_empty [] kept e = refl
 starts_empty (x ∷ d) kept e = absurd (omega arith)
@@ -37,7 +36,7 @@ starts (x ∷ d) kept offset n o l = record {
 }
 
 pub ends : {d before kept : List ℕ} {offset : ℕ} {last : Last} → Walking d before kept offset last → length d ≤ offset
-    → ends_with Ok kept ≡ walk d before
+    → ends_with (Ok tt) kept ≡ walk d before
 unfolding walk_from skip
 ends {d} w h = rw (drop_of_length-le d h) at w.is
 
@@ -69,14 +68,16 @@ module _ (d before kept : List ℕ) (offset : ℕ) (last : Last) (w : Walking d 
       let one = rw first at (head (length d) (drop offset d) (state kept last) (omega (arith, length-drop offset d))) in
       rw (← is) (sym (ap walked one) ∙ w.is)
 
-  pub ended : next ≡ End → ends_with Ok after ≡ walk d before
+  pub ended : next ≡ Ok None → ends_with (Ok tt) after ≡ walk d before
   unfolding when skip
   ended e = rw e at turn
 
-  pub refused : (r : ErrorCode) → next ≡ Refused r → ends_with (Error r) after ≡ walk d before
-  refused r e = rw e at turn
+  pub refused : {e : ErrorCode} (r : Result (Unit {0}) ErrorCode) → next ≡ Err e → IsErr r × IsErrAnd r (λ f. f ≡ e) → ends_with r after ≡ walk d before
+  refused r n x =
+      let p = err_from_is_err_and r x.1 in
+      rw (p.1 ∙ ap Err p.2) (rw n at turn)
 
-  module _ (l : Last) (e : next ≡ On l) where
+  module _ (l : Last) (e : next ≡ Ok (Some l)) where
     pub moves : 0 < get_or d offset 0
     moves = let m = rw (e, rest, first) at g.moves in m.1
 
@@ -86,3 +87,5 @@ module _ (d before kept : List ℕ) (offset : ℕ) (last : Last) (w : Walking d 
         let long = length-drop (offset + size) d in
         let same = walk_fuel (suc (length d)) (length d) (drop (offset + size) d) (omega arith) (omega arith) (state after l) in
         record { is = ap walked same ∙ rw (e, drop-drop, ← s) at turn; ready = (rw e at g.moves).0 }
+
+pub ruleset turns = (starts_empty, starts, ends, ended, refused, goes_on)

@@ -1,23 +1,30 @@
 -- What is written of the counts.
-use Rattle.std.specs.Prelude.{List, [], ◌∷◌, ◌++◌, ℕ, codes, decimal, get_or}
+use Rattle.std.specs.Prelude.{List, [], ◌∷◌, ◌++◌, ℕ, codes, decimal}
+use Rattle.std.specs.List.{flat_map}
+use Rattle.recorded.specs.declared.entry.EntryPoint.{EntryPoint}
+use Rattle.recorded.specs.declared.entry.EntryPoint.TheVariants.{RootAttach, Scan, PortCheck, ChildReset, ChildCheck}
+use Rattle.recorded.specs.declared.entry.EntryPoint.TheVariants.{RetriedReset, ConnectionChange, ConfigurationWalk}
+use Rattle.recorded.specs.Entries.{name}
+use Rattle.sequences.specs.declared.tally.Tally.{Tally}
+use Rattle.sequences.specs.Counts.{count_of, count_text}
+use Rattle.replays.specs.declared.file.RecordKind.{RecordKind}
+use Rattle.replays.specs.Files.{kind_name}
 
--- how many calls of an entry point agreed, of how many
-abbrev pub count_line : List ℕ → ℕ → ℕ → List ℕ
-count_line name agreed seen = name ++ decimal agreed ++ codes " of " ++ decimal seen ++ codes "\n"
+-- how many records of an entry point agreed, of how many
+abbrev pub count_line : Tally → EntryPoint → List ℕ
+count_line tally entry = name entry ++ codes ": " ++ count_text (count_of tally.counts entry) ++ codes "\n"
+
+unfoldable pub entry_points : List EntryPoint
+entry_points =
+    RootAttach ∷ Scan ∷ PortCheck ∷ ChildReset ∷ ChildCheck ∷ RetriedReset ∷ ConnectionChange ∷ ConfigurationWalk ∷ []
 
 -- a line for each entry point, in the order of their numbers
-abbrev pub count_lines : List ℕ → List ℕ → List ℕ
-count_lines agreed seen =
-    count_line (codes "root attach: ") (get_or agreed 0 0) (get_or seen 0 0)
-    ++ count_line (codes "scan: ") (get_or agreed 1 0) (get_or seen 1 0)
-    ++ count_line (codes "port check: ") (get_or agreed 2 0) (get_or seen 2 0)
-    ++ count_line (codes "child reset: ") (get_or agreed 3 0) (get_or seen 3 0)
-    ++ count_line (codes "child check: ") (get_or agreed 4 0) (get_or seen 4 0)
-    ++ count_line (codes "retried reset: ") (get_or agreed 5 0) (get_or seen 5 0)
-    ++ count_line (codes "connection change: ") (get_or agreed 6 0) (get_or seen 6 0)
-    ++ count_line (codes "configuration walk: ") (get_or agreed 7 0) (get_or seen 7 0)
+abbrev pub count_lines : Tally → List ℕ
+count_lines tally = flat_map (count_line tally) entry_points
 
--- a line for each number of a call or walk that differs
-unfoldable pub differing : List ℕ → List ℕ → List ℕ
-differing name [] = []
-differing name (n ∷ ns) = name ++ decimal n ++ codes " differs\n" ++ differing name ns
+-- a line for a call or walk that differs
+abbrev pub differing_line : RecordKind → ℕ → List ℕ
+differing_line kind number = kind_name kind ++ codes " " ++ decimal number ++ codes " differs\n"
+
+abbrev pub differing : RecordKind → List ℕ → List ℕ
+differing kind numbers = flat_map (differing_line kind) numbers

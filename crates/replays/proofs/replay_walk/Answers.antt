@@ -1,15 +1,23 @@
--- `replays::replay_walk` meets its contract. Assumes nothing.
-use mathlib.Core.Path.{sym}
-use native.Mathlib.Omega.{arith}
-use Rattle.recorded.proofs.Heads.{walk_fitting}
-use Rattle.replays.proofs.Buffers.{filled_long, record_long, record_part}
+use Rattle.std.proofs.Common.{◌≡◌, arith, rules}
+use Rattle.std.specs.Int.{w32, cast_signed, cast_unsigned}
+use Rattle.std.proofs.lemmas.Grind.{common_steps}
+use Rattle.replays.specs.Replays.{walk_agrees}
+use Rattle.replays.proofs.Agreement.{same_bits, walked_by}
+use Rattle.replays.proofs.Buffers.{part, record_fits}
 use Rattle.replays.proofs.replay_walk.Goals as goal
 
-pub slice_bounds-record-end : goal.slice_bounds-record-end
-slice_bounds-record-end c = omega (arith, record_long _ c.record_buffer-record.ensures, (walk_fitting _ c.requires).1)
+pub returns-then-lidrumak_configuration_walk-recorded : goal.returns-then-lidrumak_configuration_walk-recorded
+unfolding walk_agrees
+returns-then-lidrumak_configuration_walk-recorded c =
+    let x : cast_signed w32 (cast_unsigned w32 c.lidrumak_configuration_walk.result) ≡ c.lidrumak_configuration_walk.result = search rules in
+    let y : cast_signed w32 (cast_unsigned w32 c.args.recorded.answer) ≡ c.args.recorded.answer = search rules in
+    let is = walked_by c.args.recorded c.args.descriptors.now _ _ _ (part _ 969 (record_fits _ c.requires)) c.lidrumak_configuration_walk.ensures in
+    rw (← is) (grind (arith, common_steps, same_bits _ _ x y))
 
-pub slice_bounds-run_walk-end : goal.slice_bounds-run_walk-end
-slice_bounds-run_walk-end c = sym (filled_long (record_part _ _ c.record_buffer-record.ensures (walk_fitting _ c.requires).1))
-
-pub run_walk-requires : goal.run_walk-requires
-run_walk-requires c = record_part _ _ c.record_buffer-record.ensures (walk_fitting _ c.requires).1
+pub returns-else-lidrumak_configuration_walk-recorded : goal.returns-else-lidrumak_configuration_walk-recorded
+unfolding walk_agrees
+returns-else-lidrumak_configuration_walk-recorded c =
+    let x : cast_signed w32 (cast_unsigned w32 c.lidrumak_configuration_walk.result) ≡ c.lidrumak_configuration_walk.result = search rules in
+    let y : cast_signed w32 (cast_unsigned w32 c.args.recorded.answer) ≡ c.args.recorded.answer = search rules in
+    let is = walked_by c.args.recorded c.args.descriptors.now _ _ _ (part _ 969 (record_fits _ c.requires)) c.lidrumak_configuration_walk.ensures in
+    rw (← is) (grind (arith, common_steps, same_bits _ _ x y))

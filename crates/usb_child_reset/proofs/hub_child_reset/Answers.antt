@@ -1,20 +1,13 @@
--- `usb_child_reset::hub_child_reset` meets its contract. Assumes nothing.
-use borrow.Author.Rules.{rules}
-use Rattle.usb_transfer.proofs.Steps.{NotOk, bound, bound_ended}
+-- `hub_child_reset` meets its contract. Assumes nothing.
 use Rattle.usb_model.specs.Hub.{hub_child_reset}
+use Rattle.usb_transfer.proofs.Steps.{bound, bound_failed}
+use Rattle.usb_child_reset.proofs.Children.{finds}
 use Rattle.usb_child_reset.proofs.hub_child_reset.Goals as goal
 
-pub hub_port_reset2-requires : goal.hub_port_reset2-requires
-hub_port_reset2-requires c = (search rules, search rules, rw c.in-At.is at c.port_of_child-found.ensures.port)
-
-pub returns-in-Nowhere : goal.returns-in-Nowhere
-unfolding hub_child_reset NotOk
-returns-in-Nowhere c =
-    let ends = c.port_of_child-found.ensures.ends _ _ _ c.requires.0 in
-    bound_ended _ _ (rw c.in-Nowhere.is at ends) tt
-
-pub returns-in-At : goal.returns-in-At
+pub returns-in_err-port : goal.returns-in_err-port
 unfolding hub_child_reset
-returns-in-At c =
-    let ends = c.port_of_child-found.ensures.ends _ _ _ c.requires.0 in
-    bound _ (rw c.in-At.is at ends) c.hub_port_reset2.ensures
+returns-in_err-port c = bound_failed _ (finds (rw c.stored.ensures at c.port_of_child.ensures) c.requires.0 c.in_err-port.ensures.value) c.from_residual.ensures
+
+pub returns : goal.returns
+unfolding hub_child_reset
+returns c = bound _ (finds (rw c.stored.ensures at c.port_of_child.ensures) c.requires.0 c.in_ok-port.ensures.value) c.hub_port_reset2.ensures

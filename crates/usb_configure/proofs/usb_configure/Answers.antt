@@ -1,27 +1,31 @@
--- `usb_configure::usb_configure` meets its contract. Assumes nothing.
-use mathlib.Core.Path.{ap}
-use mathlib.Core.Bool.{not}
-use borrow.Author.Tests.{eq-eqb, ne_eqb}
-use Rattle.usb_transfer.proofs.Steps.{not_ok, next, next_ended, got_as, got_number_as, unless, thrown}
-use Rattle.usb_configure.proofs.Ways.{in_parts, in-parts}
+-- `usb_configure` meets its contract. Assumes nothing.
+use Rattle.std.proofs.Common.{ap, not, eq-eqb, ne_eqb}
+use Rattle.usb_model.specs.Usbd.{usb_configure}
+use Rattle.usb_transfer.proofs.Steps.{bound, next, next_failed, got, got_number, unless, thrown}
+use Rattle.usb_configure.proofs.Ways.{regrouped}
 use Rattle.usb_configure.proofs.usb_configure.Goals as goal
 
-pub returns-then-byte_at-ne-ADDRESSED : goal.returns-then-byte_at-ne-ADDRESSED
-unfolding in_parts
-returns-then-byte_at-ne-ADDRESSED c = in-parts _ _
-    (got_as _ _ _ c.byte_at.ensures (thrown _ _ _ (ap not (ne_eqb _ _ c.if-byte_at-ne-ADDRESSED.true)) c.requires.0))
+pub returns-then-byte_at : goal.returns-then-byte_at
+unfolding usb_configure
+returns-then-byte_at c =
+    got _ _ _ c.byte_at.ensures (thrown c.requires.0 _ _ (ap not (ne_eqb _ _ c.if-byte_at.true)))
 
-pub returns-in_default : goal.returns-in_default
-unfolding in_parts
-returns-in_default c = in-parts _ _
-    (got_as _ _ _ c.byte_at.ensures
-    (unless _ (ap not (eq-eqb _ _ c.if-byte_at-ne-ADDRESSED.false))
-    (next_ended _ _ c.read_configuration-head.ensures.ends (not_ok _ c.in_default.not-Ok))))
+pub returns-in_err-walk_full : goal.returns-in_err-walk_full
+unfolding usb_configure
+returns-in_err-walk_full c =
+    got _ _ _ c.byte_at.ensures
+    (unless _ _ (ap not (eq-eqb _ _ c.if-byte_at.false))
+    (next _ c.in_ok-read_configuration.ensures
+    (got_number _ _ _ _ c.u16_at-total.ensures
+    (bound _ c.in_ok-full.ensures
+    (regrouped _ _ _ _ (next_failed _ c.in_err-walk_full.ensures c.from_residual-in_err-walk_full.ensures))))))
 
 pub returns : goal.returns
-unfolding in_parts
-returns c = in-parts _ _
-    (got_as _ _ _ c.byte_at.ensures
-    (unless _ (ap not (eq-eqb _ _ c.if-byte_at-ne-ADDRESSED.false))
-    (next (rw c.in-Ok.is at c.read_configuration-head.ensures.ends)
-    (got_number_as _ _ _ _ c.u16_at-total.ensures c.configure_full.ensures))))
+unfolding usb_configure
+returns c =
+    got _ _ _ c.byte_at.ensures
+    (unless _ _ (ap not (eq-eqb _ _ c.if-byte_at.false))
+    (next _ c.in_ok-read_configuration.ensures
+    (got_number _ _ _ _ c.u16_at-total.ensures
+    (bound _ c.in_ok-full.ensures
+    (regrouped _ _ _ _ (next _ c.in_ok-walk_full.ensures (got _ _ _ c.byte_at-value.ensures c.usb_set_configure.ensures)))))))

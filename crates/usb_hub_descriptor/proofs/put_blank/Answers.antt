@@ -1,10 +1,15 @@
--- `usb_hub_descriptor::put_blank` meets its contract. Assumes nothing.
-use Rattle.usb_hub_descriptor.proofs.Blanks.{blank_put, blank_kept}
+-- `put_blank` meets its contract. Assumes nothing.
+use Rattle.std.proofs.Common.{eq-eqb, ne_eqb}
+use Rattle.usb_transfer.proofs.Steps.{next, got, done_if, done_unless}
+use Rattle.usb_hub_descriptor.specs.Parts.{put_blank}
 use Rattle.usb_hub_descriptor.proofs.put_blank.Goals as goal
 
 pub returns-then-byte_at-eq-WITHOUT_DESCRIPTOR : goal.returns-then-byte_at-eq-WITHOUT_DESCRIPTOR
+unfolding put_blank
 returns-then-byte_at-eq-WITHOUT_DESCRIPTOR c =
-    blank_put _ _ _ c.byte_at.ensures c.if-byte_at-eq-WITHOUT_DESCRIPTOR.true _ _ c.set_byte.ensures c.set_bytes.ensures
+    got _ _ _ c.byte_at.ensures (done_if (eq-eqb _ _ c.if-byte_at-eq-WITHOUT_DESCRIPTOR.true) (next _ c.set_byte.ensures c.set_bytes.ensures))
 
 pub returns-else-byte_at-eq-WITHOUT_DESCRIPTOR : goal.returns-else-byte_at-eq-WITHOUT_DESCRIPTOR
-returns-else-byte_at-eq-WITHOUT_DESCRIPTOR c = blank_kept _ _ _ c.byte_at.ensures c.if-byte_at-eq-WITHOUT_DESCRIPTOR.false
+unfolding put_blank
+returns-else-byte_at-eq-WITHOUT_DESCRIPTOR c =
+    got _ _ _ c.byte_at.ensures (done_unless c.requires.0 _ (ne_eqb _ _ c.if-byte_at-eq-WITHOUT_DESCRIPTOR.false))

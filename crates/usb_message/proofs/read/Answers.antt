@@ -1,19 +1,19 @@
--- `usb_message::read` meets its contract. Assumes nothing.
-use Rattle.usb_transfer.proofs.Steps.{not_ok}
-use Rattle.usb_message.proofs.Messages.{none_enough, read_ended, read_short, read_enough}
+-- `read` meets its contract. Assumes nothing.
+use Rattle.std.proofs.Common.{lt-ltb, le-ltb}
+use Rattle.usb_model.specs.Transfer.{read}
+use Rattle.usb_transfer.proofs.Steps.{bound, bound_ends, exit_bytes, thrown, unless, returned}
 use Rattle.usb_message.proofs.read.Goals as goal
 
-pub returns-in_default : goal.returns-in_default
-returns-in_default c =
-    let ended = not_ok _ c.in_default.not-Ok in
-    (read_ended _ _ _ _ _ _ _ _ c.control-transfer.ensures ended, none_enough _ _ _ ended)
+pub returns-in_err-bytes-clause-gives : goal.returns-in_err-bytes-clause-gives
+unfolding read
+returns-in_err-bytes-clause-gives c = bound_ends _ c.in_err-bytes.ensures (exit_bytes _ c.from_residual.ensures)
 
-pub returns-then-transfer-minimum : goal.returns-then-transfer-minimum
-returns-then-transfer-minimum c =
-    let done = rw c.in-Ok.is at c.control-transfer.ensures in
-    rw c.handed_back.ensures (read_short _ _ _ _ _ _ _ done c.if-transfer-minimum.true, tt)
+pub returns-then-bytes-minimum-clause-gives : goal.returns-then-bytes-minimum-clause-gives
+unfolding read
+returns-then-bytes-minimum-clause-gives c =
+    bound _ c.in_ok-bytes.ensures (thrown c.in_ok-bytes.ensures.fit _ _ (lt-ltb _ _ c.if-bytes-minimum.true))
 
-pub returns : goal.returns
-returns c =
-    let done = rw c.in-Ok.is at c.control-transfer.ensures in
-    rw c.in-Ok.is (read_enough _ _ _ _ _ _ _ done c.if-transfer-minimum.false, c.if-transfer-minimum.false)
+pub returns-clause-gives : goal.returns-clause-gives
+unfolding read
+returns-clause-gives c =
+    bound _ c.in_ok-bytes.ensures (unless _ _ (le-ltb _ _ c.if-bytes-minimum.false) (returned c.in_ok-bytes.ensures.fit _))

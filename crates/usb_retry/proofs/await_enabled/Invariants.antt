@@ -1,13 +1,8 @@
--- `usb_retry::await_enabled` meets its contract. The loop's invariant: the reads that are left are the whole. Assumes nothing.
+-- The loop of `await_enabled`: what is left to run is the whole. Assumes nothing.
+use Rattle.std.proofs.Common.{◌-◌}
 use Rattle.usb_model.specs.Hub.{await_enabled}
-use Rattle.usb_transfer.specs.Runs.{here}
 use Rattle.usb_transfer.proofs.Steps.{Going}
 use Rattle.usb_retry.proofs.await_enabled.Given as goal
 
-abbrev pub invariant-loop-left : goal.invariant-loop-left
-invariant-loop-left l =
-    Going (await_enabled 10 l.hub l.port) (here l.initial.store l.initial.log l.outcomes l.initial.progress) (await_enabled l.left l.hub l.port)
-    (here l.store l.log l.outcomes l.progress)
-
-abbrev pub decreases-loop-left : goal.decreases-loop-left
-decreases-loop-left l = l.left
+abbrev pub invariant-loop-read : goal.invariant-loop-read
+invariant-loop-read l = Going (await_enabled 10 l.hub l.port) l.initial.bus (await_enabled (10 - l.read) l.hub l.port) l.bus

@@ -1,48 +1,25 @@
--- `usb_retry::try_reset` meets its contract. Assumes nothing.
--- ---- the place of each call, and the place where its answer is known to be Ok
--- ---- the answers
-use mathlib.Core.Path.{refl, sym, ◌∙◌}
+-- `try_reset` meets its contract. Assumes nothing.
+use Rattle.std.specs.Prelude.{◌≡◌, false}
+use Rattle.std.proofs.Common.{rules, sym, ◌∙◌}
 use Rattle.usb_model.specs.Features.{bit}
-use Rattle.usb_transfer.proofs.Steps.{not_ok, as_ok, otherwise, bound_ended, next, next_ended}
-use Rattle.usb_retry.specs.Parts.{try_reset}
-use Rattle.usb_retry.proofs.Tries.{try_lost, try_kept, try_unseen}
+use Rattle.usb_model.specs.Hub.{port_status}
+use Rattle.usb_transfer.proofs.Steps.{bound, next, got_number, unless, thrown, returned}
+use Rattle.usb_retry.specs.Parts.{is_lost, try_reset}
 use Rattle.usb_retry.proofs.try_reset.Goals as goal
-
-pub returns-in_default : goal.returns-in_default
-unfolding try_reset
-returns-in_default c =
-    let ended = not_ok _ c.in_default.not-Ok in
-    let ends = next_ended _ _ c.hub_change_port_feature-reset.ensures ended in
-    record { ends = ends; so = otherwise (Unit {0}) _ ended refl }
-
-pub returns-in_default-answer : goal.returns-in_default-answer
-unfolding try_reset
-returns-in_default-answer c =
-    let set = as_ok c.in-Ok.is c.hub_change_port_feature-reset.ensures in
-    let reads = c.await_enabled-reads.ensures in
-    record { ends = next set (bound_ended _ _ reads.ends (not_ok _ c.in_default-answer.not-Ok)); so = reads.so }
-
-pub port_status-status-requires : goal.port_status-status-requires
-port_status-status-requires c = (c.await_enabled-reads.ensures.ends.fit.whole, c.requires.1, c.requires.2)
+use Rattle.usb_retry.proofs.try_reset.Goals.{else-seen-via-then-seen+else-lost, else-seen-via-else-seen}
 
 pub returns-then-lost : goal.returns-then-lost
+unfolding try_reset port_status
 returns-then-lost c =
-    let set = as_ok c.in-Ok.is c.hub_change_port_feature-reset.ensures in
-    let reads = as_ok c.in-Ok-answer.is c.await_enabled-reads.ensures.ends in
-    let gone = rw c.port_status-status.ensures at (sym c.lost.ensures ∙ c.if-lost.true) in
-    record { ends = try_lost _ _ set _ reads c.if-reads.true gone; so = refl }
+    let reads = rw c.if-seen.true at c.in_ok-seen.ensures in
+    next _ c.in_ok-hub_change_port_feature.ensures (bound _ reads (got_number _ _ _ _ (rw c.stored.ensures at c.port_status-status.ensures)
+    (thrown reads.fit _ _ (sym c.lost.ensures ∙ c.if-lost.true))))
 
-pub returns-then-reads : goal.returns-then-reads
-unfolding bit
-returns-then-reads c =
-    let set = as_ok c.in-Ok.is c.hub_change_port_feature-reset.ensures in
-    let reads = as_ok c.in-Ok-answer.is c.await_enabled-reads.ensures.ends in
-    let there = rw c.port_status-status.ensures at (sym c.lost.ensures ∙ c.if-lost.false) in
-    let enabled = rw c.port_status-status.ensures at c.has-seen.ensures in
-    rw c.in-Ok-answer.is (record { ends = try_kept _ _ set _ reads c.if-reads.true there _ enabled; so = tt })
-
-pub returns : goal.returns
-returns c =
-    let set = as_ok c.in-Ok.is c.hub_change_port_feature-reset.ensures in
-    let reads = as_ok c.in-Ok-answer.is c.await_enabled-reads.ensures.ends in
-    rw c.in-Ok-answer.is (record { ends = try_unseen _ _ set _ reads c.if-reads.false; so = tt })
+pub returns-then-seen-2 : goal.returns-then-seen-2
+unfolding try_reset port_status bit
+returns-then-seen-2 c =
+    let there : is_lost c.port_status-status.result ≡ false =
+    elim c.else-seen.branch [ else-seen-via-then-seen+else-lost w ↦ sym w.lost.ensures ∙ w.if-lost.false | else-seen-via-else-seen w ↦ search rules ] in
+    let reads = rw c.if-seen-2.true at c.in_ok-seen.ensures in
+    next _ c.in_ok-hub_change_port_feature.ensures (bound _ reads (got_number _ _ _ _ (rw c.stored.ensures at c.port_status-status.ensures)
+    (unless _ _ there (rw c.has.ensures (returned reads.fit _)))))

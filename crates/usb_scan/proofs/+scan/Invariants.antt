@@ -1,7 +1,6 @@
 -- The measures: two for each place above the hub, and a stage; a child stands above its hub. The loop of `hub_check_for_change`: the ports
 -- that are left, run from here, are all ports run from where the loop began. Assumes nothing.
 use Rattle.std.proofs.Common.{◌-◌, ◌+◌, ◌*◌}
-use Rattle.usb_transfer.specs.Runs.{here}
 use Rattle.usb_scan.proofs.Scans.{Scanned}
 use Rattle.usb_scan.proofs.+scan.Given as goal
 
@@ -12,8 +11,4 @@ abbrev pub decreases-scan_port : goal.decreases-scan_port
 decreases-scan_port l = 2 * (32 - l.hub)
 
 abbrev pub invariant-hub_check_for_change-loop-port : goal.invariant-hub_check_for_change-loop-port
-invariant-hub_check_for_change-loop-port l =
-    Scanned l.hub l.ports l.port (here l.initial.store l.initial.log l.outcomes l.initial.progress) (here l.store l.log l.outcomes l.progress)
-
-abbrev pub decreases-hub_check_for_change-loop-port : goal.decreases-hub_check_for_change-loop-port
-decreases-hub_check_for_change-loop-port l = l.ports - l.port
+invariant-hub_check_for_change-loop-port l = Scanned l.hub l.ports l.port l.initial.bus l.bus

@@ -1,27 +1,22 @@
--- `usb_scan::check_child` meets its contract. Assumes nothing.
--- ---- once the check answered Ok
-use mathlib.Core.Path.{refl, ap, ◌∙◌}
-use mathlib.Core.Bool.{not}
-use borrow.Author.Tests.{eq-eqb, ne_eqb}
-use Rattle.usb_model.specs.Programs.{throw}
-use Rattle.usb_transfer.proofs.Steps.{as_ok, not_ok, next, next_ended, got_as, done_if, done_unless}
+-- `check_child` meets its contract. Assumes nothing.
+use Rattle.std.proofs.Common.{refl, sym}
+use Rattle.usb_transfer.proofs.Steps.{next, next_failed, got, done_if, done_unless, failed}
 use Rattle.usb_scan.specs.Parts.{check_child}
+use Rattle.usb_scan.proofs.Scans.{is_child}
 use Rattle.usb_scan.proofs.check_child.Goals as goal
 
-pub returns-in_default : goal.returns-in_default
+pub returns-in_err-hub_check_connection : goal.returns-in_err-hub_check_connection
 unfolding check_child
-returns-in_default c n h = next_ended _ _ (c.hub_check_connection-checked.ensures n h) (not_ok _ c.in_default.not-Ok)
+returns-in_err-hub_check_connection c n h = next_failed _ (c.in_err-hub_check_connection.ensures n h) c.from_residual.ensures
 
-pub returns-then-wide-child : goal.returns-then-wide-child
-unfolding check_child throw
-returns-then-wide-child c n h =
-    let check = as_ok c.in-Ok.is (c.hub_check_connection-checked.ensures n h) in
-    next check (got_as _ _ _ (c.wide.ensures.0 ∙ c.port_child.ensures)
-    (done_if (ap not (ne_eqb _ _ c.if-wide-child.true)) (record { is = refl; fit = check.fit })))
+pub returns-then-ne : goal.returns-then-ne
+unfolding check_child
+returns-then-ne c n h =
+    let check = c.in_ok-hub_check_connection.ensures n h in
+    next _ check (got _ _ _ refl (done_if (sym (rw (c.port_child.ensures, c.stored.ensures, is_child) at c.if-ne.ensures)) (failed check.fit _)))
 
 pub returns : goal.returns
 unfolding check_child
 returns c n h =
-    let ok = c.in-Ok.is in
-    let check = as_ok ok (c.hub_check_connection-checked.ensures n h) in
-    rw ok (next check (got_as _ _ _ (c.wide.ensures.0 ∙ c.port_child.ensures) (done_unless _ (ap not (eq-eqb _ _ c.if-wide-child.false)) check.fit)))
+    let check = c.in_ok-hub_check_connection.ensures n h in
+    next _ check (got _ _ _ refl (done_unless check.fit _ (sym (rw (c.port_child.ensures, c.stored.ensures, is_child) at c.if-ne.ensures))))

@@ -1,12 +1,8 @@
 -- `usb_store::memory_copy` meets its contract. The loop's invariant: the first j bytes are written. Assumes nothing.
 use mathlib.Core.Path.{◌≡◌}
-use Prim.Native.Nat.{◌≤◌, ◌-◌}
-use lib.ListN.{length, take}
+use lib.ListN.{take}
 use Rattle.usb_store.specs.Access.{write}
 use Rattle.usb_store.proofs.memory_copy.Given as goal
 
 abbrev pub invariant-loop-j : goal.invariant-loop-j
-invariant-loop-j l = (l.j ≤ length l.src) × (l.dst ≡ write l.initial.dst l.start (take l.j l.src)) × (length l.dst ≡ length l.initial.dst)
-
-abbrev pub decreases-loop-j : goal.decreases-loop-j
-decreases-loop-j l = length l.src - l.j
+invariant-loop-j l = l.dst ≡ write l.initial.dst l.start (take l.j l.src)

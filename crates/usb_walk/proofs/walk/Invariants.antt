@@ -1,5 +1,4 @@
--- `usb_walk::walk` meets its contract. The loop's invariant: what is left to walk from here gives what the whole walk gives.
--- Assumes nothing.
+-- The loop of `walk`: what is left to walk from here gives what the whole walk gives. Assumes nothing.
 use Prim.Native.Nat.{◌-◌}
 use lib.ListN.{length}
 use Rattle.usb_walk.proofs.Turns.{Walking}

@@ -1,14 +1,10 @@
-use Rattle.std.proofs.Common.{◌≤◌, ◌-◌, take, length}
+-- A line for each number so far is written.
+use Rattle.std.proofs.Common.{take}
 use Rattle.std.specs.Io.KnownBytes.{Appends}
 use Rattle.vectors.specs.Lines.{differing}
 use Rattle.vectors.proofs.write_differing.Given as goal
 
-abbrev pub invariant-loop-i : goal.invariant-loop-i
-invariant-loop-i g l = record {
-  most : l.i ≤ l.noted;
-  within : l.i ≤ length l.numbers;
-  written : Appends (g.W.Write.contents l.fn.out) (g.W.Write.contents l.out) (differing l.name (take l.i l.numbers));
+abbrev pub invariant-loop-number : goal.invariant-loop-number
+invariant-loop-number g l = record {
+  written : Appends (g.W.Write.contents l.fn.out) (g.W.Write.contents l.out) (differing l.kind (take l.number-index l.numbers));
 }
-
-abbrev pub decreases-loop-i : goal.decreases-loop-i
-decreases-loop-i g l = length l.numbers - l.i

@@ -1,20 +1,18 @@
--- `usb_device::hub::load_hub` meets its contract. The loop's invariant: the values of the ports passed are in the two arrays.
--- Assumes nothing.
-use borrow.Author.Rules.{rules}
-use mathlib.Core.Path.{refl}
+-- `usb_device::hub::load_hub` meets its contract. Assumes nothing.
+use Rattle.std.proofs.Common.{rules}
+use Rattle.usb_store.specs.Layout.{port_status_field, child_field}
+use Rattle.usb_store.specs.Access.{byte_at, number_at}
 use Rattle.usb_device.specs.Ports.{hub_at}
-use Rattle.usb_device.proofs.HubRecord.{filled_none, filled_more, filled_all}
+use Rattle.usb_device.proofs.HubRecord.{made}
 use Rattle.usb_device.proofs.hub.load_hub.Goals as goal
-
-pub loop-port-init : goal.loop-port-init
-loop-port-init c = (search rules, filled_none _ refl, filled_none _ refl)
-
-pub loop-port-preserved : goal.loop-port-preserved
-loop-port-preserved c =
-    let inside = c.loop-port-test.true in
-    (search rules, filled_more _ inside c.u32_at.ensures c.loop-port.invariant.1, filled_more _ inside c.byte_at.ensures c.loop-port.invariant.2)
 
 pub returns : goal.returns
 unfolding hub_at
 returns c =
-    rw (filled_all c.loop-port-test.false c.loop-port.invariant.1, filled_all c.loop-port-test.false c.loop-port.invariant.2, c.byte_at-max_children.ensures)
+    let s = c.args.store.now in
+    let place = c.args.place in
+    rw (
+      made (λ port. number_at s place (port_status_field port) 4) _ (λ port y r k. search rules) c.from_fn.ensures.items,
+      made (λ port. byte_at s place (child_field port)) _ (λ port y r k. search rules) c.from_fn-2.ensures.items,
+      c.byte_at.ensures,
+    )

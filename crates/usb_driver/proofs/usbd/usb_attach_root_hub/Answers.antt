@@ -1,34 +1,28 @@
--- `usb_driver::usbd::usb_attach_root_hub` meets its contract. Assumes nothing.
--- ---- the places, from the last write to the entry
--- the world there, with this store
-use native.Mathlib.Omega.{arith}
+-- `usb_attach_root_hub` meets its contract. Assumes nothing.
+use Rattle.std.proofs.Common.{arith}
 use Rattle.usb_device.proofs.Free.{free_most}
 use Rattle.usb_model.specs.Attach.{usb_attach_root_hub}
-use Rattle.usb_transfer.proofs.Steps.{NotOk, bound, bound_ended, put_then}
-use Rattle.usb_child.proofs.Births.{full, taken}
+use Rattle.usb_enumerate.proofs.Ways.{placed}
+use Rattle.usb_transfer.proofs.Steps.{bound, bound_failed, next}
 use Rattle.usb_driver.proofs.Births.{root_born}
 use Rattle.usb_driver.proofs.usbd.usb_attach_root_hub.Goals as goal
 
-pub returns-then-place-eq-PLACES : goal.returns-then-place-eq-PLACES
-unfolding usb_attach_root_hub NotOk
-returns-then-place-eq-PLACES c = bound_ended _ _ (full _ _ c.if-place-eq-PLACES.true (c.usb_allocate_device-place.ensures.0 _ _ _ c.requires.0)) tt
+pub returns-in_err-place : goal.returns-in_err-place
+unfolding usb_attach_root_hub
+returns-in_err-place c = bound_failed _ (placed c.requires.0 c.in_err-place.ensures.gives) c.from_residual.ensures
+
+pub set_byte-requires : goal.set_byte-requires
+set_byte-requires c =
+    let fit = (placed c.requires.0 c.in_ok-place.ensures.gives).fit in
+    (fit, record { whole = fit.whole; inside = c.in_ok-place.ensures.inside; room = omega arith })
 
 pub usb_attach_device-requires : goal.usb_attach_device-requires
 usb_attach_device-requires c =
-    (root_born _ c.args.speed _ _ _ c.requires.1 (omega (arith, c.ranges.speed))
-    (taken _ _ c.if-place-eq-PLACES.false (c.usb_allocate_device-place.ensures.0 _ _ _ c.requires.0))
-    c.set_byte.ensures c.set_byte-2.ensures).bus
+    (root_born _ c.args.speed c.requires.1 (omega (arith, c.ranges.speed)) (placed c.requires.0 c.in_ok-place.ensures.gives) c.set_byte.ensures c.set_byte-2.ensures).bus
 
 pub returns : goal.returns
 unfolding usb_attach_root_hub
 returns c =
-    let most = free_most c.args.store.now in
-    let attached = c.usb_attach_device.ensures 32 (omega (
-      arith,
-      (root_born _ c.args.speed _ _ _ c.requires.1 (omega (arith, c.ranges.speed))
-          (taken _ _ c.if-place-eq-PLACES.false (c.usb_allocate_device-place.ensures.0 _ _ _ c.requires.0))
-          c.set_byte.ensures c.set_byte-2.ensures).free,
-      most,
-    )) in
-    bound _ (taken _ _ c.if-place-eq-PLACES.false (c.usb_allocate_device-place.ensures.0 _ _ _ c.requires.0))
-    (put_then _ _ _ _ c.set_byte.ensures (put_then _ _ _ _ c.set_byte-2.ensures attached))
+    let new = root_born _ c.args.speed c.requires.1 (omega (arith, c.ranges.speed)) (placed c.requires.0 c.in_ok-place.ensures.gives) c.set_byte.ensures c.set_byte-2.ensures in
+    let attached = c.usb_attach_device.ensures 32 (omega (arith, new.free, free_most c.args.bus.now.store.now)) in
+    bound _ (placed c.requires.0 c.in_ok-place.ensures.gives) (next _ c.set_byte.ensures (next _ c.set_byte-2.ensures attached))

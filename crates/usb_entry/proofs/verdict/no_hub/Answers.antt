@@ -1,13 +1,8 @@
--- `usb_entry::verdict::no_hub` meets its contract. Assumes nothing.
-use mathlib.Core.Path.{sym, ◌∙◌}
-use mathlib.Core.List.{[]}
-use borrow.Author.Rules.{rules}
-use borrow.Author.Tests.{leb-false}
+-- `no_hub` meets its contract. Assumes nothing.
+use Rattle.std.specs.Prelude.{[]}
+use Rattle.std.proofs.Common.{rules, sym, ◌∙◌, leb-false}
 use Rattle.usb_model.proofs.Accepted.{neither}
 use Rattle.usb_entry.proofs.verdict.no_hub.Goals as goal
-
-pub returns-then-is_unused : goal.returns-then-is_unused
-returns-then-is_unused c new outcomes log = simp (sym (c.is_unused.ensures new outcomes log) ∙ c.if-is_unused.true)
 
 pub byte_at-requires : goal.byte_at-requires
 byte_at-requires c = record {
@@ -16,5 +11,8 @@ byte_at-requires c = record {
   room = search rules;
 }
 
-pub returns : goal.returns
-returns c new outcomes log = simp (sym (c.is_unused.ensures new outcomes log) ∙ c.if-is_unused.false, c.byte_at.ensures)
+pub returns-then-is_unused : goal.returns-then-is_unused
+returns-then-is_unused c new outcomes log = simp (sym (c.is_unused.ensures new outcomes log) ∙ c.if-is_unused.true, c.if-is_unused.true)
+
+pub returns-else-is_unused : goal.returns-else-is_unused
+returns-else-is_unused c new outcomes log = simp (sym (c.is_unused.ensures new outcomes log) ∙ c.if-is_unused.false, c.byte_at.ensures)

@@ -1,5 +1,5 @@
--- `usb_hub::ports::port_status` meets its contract. Assumes nothing.
-use mathlib.Core.Path.{◌∙◌}
+-- `port_status` meets its contract. Assumes nothing.
+use Rattle.std.proofs.Common.{◌∙◌}
 use Rattle.usb_device.proofs.HubRecord.{status_at}
 use Rattle.usb_hub.proofs.ports.port_status.Goals as goal
 

@@ -1,29 +1,24 @@
--- `usb_hub::requests::hub_power_on` meets its contract. Assumes nothing.
-use borrow.Author.Tests.{eq-eqb, ne_eqb}
-use Rattle.usb_transfer.proofs.Steps.{not_ok, next, next_ended, got, done_if, done_unless}
-use Rattle.usb_transfer.proofs.Logged.{logged}
+-- `hub_power_on` meets its contract. Assumes nothing.
+use Rattle.std.proofs.Common.{eq-eqb, ne_eqb}
 use Rattle.usb_model.specs.Hub.{hub_power_on}
+use Rattle.usb_transfer.proofs.Steps.{logged, next, next_failed, got, done_if, done_unless}
 use Rattle.usb_hub.specs.Parts.{power_ports}
 use Rattle.usb_hub.proofs.requests.hub_power_on.Goals as goal
 
 pub returns-then-byte_at-ne-WITH_DESCRIPTOR : goal.returns-then-byte_at-ne-WITH_DESCRIPTOR
 unfolding hub_power_on
 returns-then-byte_at-ne-WITH_DESCRIPTOR c =
-    let none = ne_eqb _ _ (rw c.byte_at.ensures at c.if-byte_at-ne-WITH_DESCRIPTOR.true) in
-    rw c.ok.ensures (got _ _ _ (done_unless _ none c.requires.0))
+    got _ _ _ c.byte_at.ensures (done_unless c.requires.0 _ (ne_eqb _ _ c.if-byte_at-ne-WITH_DESCRIPTOR.true))
 
-pub returns-in_default : goal.returns-in_default
+pub returns-in_err-power_ports : goal.returns-in_err-power_ports
 unfolding hub_power_on power_ports
-returns-in_default c =
-    let ports = rw (c.wide-count.ensures.0, c.byte_at-2.ensures) at c.power_ports-powered.ensures in
-    got _ _ _ (done_if (eq-eqb _ _ (rw c.byte_at.ensures at c.if-byte_at-ne-WITH_DESCRIPTOR.false))
-    (got _ _ _ (got _ _ _ (next_ended _ _ ports (not_ok _ c.in_default.not-Ok)))))
+returns-in_err-power_ports c =
+    got _ _ _ c.byte_at.ensures (done_if (eq-eqb _ _ c.if-byte_at-ne-WITH_DESCRIPTOR.false)
+    (got _ _ _ c.byte_at-count.ensures (got _ _ _ c.byte_at-2.ensures (next_failed _ c.in_err-power_ports.ensures c.from_residual.ensures))))
 
 pub returns : goal.returns
 unfolding hub_power_on power_ports
 returns c =
-    let ports = rw (c.in-Ok.is, c.wide-count.ensures.0, c.byte_at-2.ensures) at c.power_ports-powered.ensures in
-    let wait = logged c.micro_delay.ensures ports.fit in
-    let waited = rw (c.power_delay-delay.ensures, c.byte_at-3.ensures) at wait in
-    got _ _ _ (done_if (eq-eqb _ _ (rw c.byte_at.ensures at c.if-byte_at-ne-WITH_DESCRIPTOR.false))
-    (got _ _ _ (got _ _ _ (next ports waited))))
+    let delay = logged c.in_ok-power_ports.ensures.fit (rw c.power_delay-delay.ensures at c.micro_delay.ensures) in
+    got _ _ _ c.byte_at.ensures (done_if (eq-eqb _ _ c.if-byte_at-ne-WITH_DESCRIPTOR.false)
+    (got _ _ _ c.byte_at-count.ensures (got _ _ _ c.byte_at-2.ensures (next _ c.in_ok-power_ports.ensures delay))))

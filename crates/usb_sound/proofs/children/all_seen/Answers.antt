@@ -1,17 +1,12 @@
--- `usb_sound::children::all_seen` meets its contract. The loop's invariant: the places that are left decide them all. Assumes nothing.
-use borrow.Author.Tests.{eq-eqb, ne_eqb}
-use mathlib.Core.Path.{refl, sym, ◌∙◌}
-use Rattle.usb_place.proofs.Steps.{every_turn, every_end}
+-- `usb_sound::children::all_seen` meets its contract. Assumes nothing.
+use Rattle.std.proofs.Common.{rules, tests, ◌∙◌, refl, ℕ, get_or, false}
+use Rattle.std.proofs.lemmas.Iterator.{YieldsList-from_range}
+use Rattle.std.proofs.lemmas.Iterator.Search.{all_from_yields_List}
+use Rattle.usb_place.proofs.Steps.{every_by}
 use Rattle.usb_sound.proofs.children.all_seen.Goals as goal
 
-pub loop-p-init : goal.loop-p-init
-loop-p-init c = refl
-
-pub returns-then-seen-p-ne1 : goal.returns-then-seen-p-ne1
-returns-then-seen-p-ne1 c = sym (c.loop-p.invariant ∙ every_turn _ _ _ c.loop-p-test.true (ne_eqb _ _ c.if-seen-p-ne1.true))
-
-pub loop-p-preserved : goal.loop-p-preserved
-loop-p-preserved c = c.loop-p.invariant ∙ every_turn _ _ _ c.loop-p-test.true (eq-eqb _ _ c.if-seen-p-ne1.false)
-
 pub returns : goal.returns
-returns c = sym (c.loop-p.invariant ∙ every_end _ _ _ c.loop-p-test.false)
+returns c =
+    all_from_yields_List (λ (p : ℕ). get_or c.args.seen.now p false) _ _ _ c.all.ensures.ran
+    (YieldsList-from_range 1 c.args.n _ refl refl) (λ x b q k. search (rules, tests))
+    ∙ every_by _ 1 _

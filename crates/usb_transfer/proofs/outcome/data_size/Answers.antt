@@ -1,9 +1,7 @@
--- `usb_transfer::outcome::data_size` meets its contract. Assumes nothing.
-use native.Mathlib.Omega.{arith}
+-- `data_size` meets its contract. Assumes nothing.
+use Rattle.std.proofs.Common.{rules, sym, ◌∙◌}
 use Rattle.usb_transfer.proofs.Outcomes.{size_is}
 use Rattle.usb_transfer.proofs.outcome.data_size.Goals as goal
 
 pub returns : goal.returns
-returns c =
-    let size = size_is c.args.rest.now c.requires in
-    (omega (arith, size, c.wide.ensures.0, c.wide-2.ensures.0), omega (arith, c.wide.ensures.1, c.wide-2.ensures.1))
+returns c = (c.from.ensures ∙ c.from_le_bytes.ensures ∙ sym (size_is _ c.requires), search rules)

@@ -1,22 +1,23 @@
--- `usb_transfer::outcome::read_outcome` meets its contract. Assumes nothing.
-use mathlib.Core.Path.{sym, ◌∙◌}
+-- `read_outcome` meets its contract. Assumes nothing.
+use Rattle.std.proofs.Common.{sym}
 use Rattle.usb_transfer.proofs.Outcomes.{takes_none, takes_garbled, takes_cut, takes_whole}
 use Rattle.usb_transfer.proofs.outcome.read_outcome.Goals as goal
 
 pub returns-then-rest-lt-HEADER_LEN : goal.returns-then-rest-lt-HEADER_LEN
 returns-then-rest-lt-HEADER_LEN c = takes_none _ c.if-rest-lt-HEADER_LEN.true
 
+pub returns-then-not-outcome_listed : goal.returns-then-not-outcome_listed
+returns-then-not-outcome_listed c =
+    takes_garbled _ c.if-rest-lt-HEADER_LEN.false (sym c.if-not-outcome_listed.ensures)
+
 pub returns-then-rest-size : goal.returns-then-rest-size
-returns-then-rest-size c = takes_cut _ c.if-rest-lt-HEADER_LEN.false (sym c.outcome_listed.ensures ∙ c.if-outcome_listed.true)
+returns-then-rest-size c = takes_cut _ c.if-rest-lt-HEADER_LEN.false (sym c.if-not-outcome_listed.ensures)
     (rw c.data_size-size.ensures.0 at c.if-rest-size.true)
 
-pub returns-then-outcome_listed : goal.returns-then-outcome_listed
-returns-then-outcome_listed c =
+pub returns : goal.returns
+returns c =
     let size = c.data_size-size.ensures in
     rw size.0
-    (takes_whole _ c.if-rest-lt-HEADER_LEN.false (sym c.outcome_listed.ensures ∙ c.if-outcome_listed.true)
+    (takes_whole _ c.if-rest-lt-HEADER_LEN.false (sym c.if-not-outcome_listed.ensures)
     (rw size.0 at c.if-rest-size.false)
     (rw size.0 at size.1))
-
-pub returns : goal.returns
-returns c = takes_garbled _ c.if-rest-lt-HEADER_LEN.false (sym c.outcome_listed.ensures ∙ c.if-outcome_listed.false)
