@@ -1,5 +1,6 @@
 // A call of the driver: its refusals, and, on a copy of the old store, the function that it names.
-ghost use Rattle.std.specs.Prelude.{◌≡◌};
+ghost use Rattle.std.specs.Prelude.{◌≡◌, ◌<◌};
+ghost use Rattle.usb_store.specs.Layout.{place_count, ports_per_hub};
 ghost use Rattle.usb_entry.specs.Replies.{told, Judges, lent, left};
 ghost use Rattle.usb_transfer.specs.Runs.{Does};
 ghost use Rattle.lidrumak.specs.Entries.{verdict, program, entry, CanRun};
@@ -9,6 +10,7 @@ use usb_driver::hub::{hub_check_connection, hub_port_connection_changed};
 use usb_driver::usbd::usb_attach_root_hub;
 use usb_entry::reply::{Reply, refuse, report};
 use usb_entry::verdict::{child_verdict, hub_verdict, port_verdict, root_verdict};
+use usb_hub::ports::HubPort;
 use usb_retry::hub_port_reset;
 use usb_scan::{hub_check_connection_device, hub_check_for_change};
 use usb_sound::copy_store;
@@ -42,6 +44,16 @@ fn judge(call: Call, old: &[u8], new_len: usize) -> Result<(), Refusal>
     }
 }
 
+fn hub_port(hub: u32, port: u32) -> HubPort
+    requires { (hub < place_count) × (port < ports_per_hub) }
+    ensures { (result.hub ≡ hub) × (result.port ≡ port) }
+{
+    HubPort {
+        hub: hub as usize,
+        port: port as usize,
+    }
+}
+
 // A match, and not a closure that the caller passes: of each closure it would have to be proved that it keeps the slices which the bus lends.
 fn run(bus: &mut UsbBus, call: Call) -> Result<(), Failure>
     requires { CanRun call bus.old }
@@ -52,15 +64,13 @@ fn run(bus: &mut UsbBus, call: Call) -> Result<(), Failure>
     match call {
         Call::RootAttach(speed) => usb_attach_root_hub(bus, speed as u8),
         Call::Scan(hub) => hub_check_for_change(bus, hub as usize),
-        Call::PortCheck(hub, port) => hub_check_connection(bus, hub as usize, port as usize),
+        Call::PortCheck(hub, port) => hub_check_connection(bus, hub_port(hub, port)),
         Call::ChildReset(hub, child) => hub_child_reset(bus, hub as usize, child as usize),
         Call::ChildCheck(hub, child) => {
             hub_check_connection_device(bus, hub as usize, child as usize)
         }
-        Call::RetriedReset(hub, port) => hub_port_reset(bus, hub as usize, port as usize),
-        Call::ConnectionChange(hub, port) => {
-            hub_port_connection_changed(bus, hub as usize, port as usize)
-        }
+        Call::RetriedReset(hub, port) => hub_port_reset(bus, hub_port(hub, port)),
+        Call::ConnectionChange(hub, port) => hub_port_connection_changed(bus, hub_port(hub, port)),
     }
 }
 

@@ -8,6 +8,7 @@ ghost use Rattle.usb_model.specs.Hub as Model;
 ghost use Rattle.usb_transfer.specs.Runs.{Ready, Does};
 ghost use Rattle.usb_child_reset.specs.Finds.{Finds};
 
+use usb_hub::ports::HubPort;
 use usb_port::hub_port_reset2;
 use usb_store::{CHILDREN, MAX_CHILDREN, PARENT, PORT_NUMBER, byte_at};
 use usb_transfer::bus::UsbBus;
@@ -30,5 +31,5 @@ pub fn hub_child_reset(bus: &mut UsbBus, hub: usize, child: usize) -> Result<(),
     ensures { Does (Model.hub_child_reset hub child) bus.old bus.new result }
 {
     let port = port_of_child(bus.stored(), hub, child).ok_or(ErrorCode::Argument)?;
-    hub_port_reset2(bus, hub, port)
+    hub_port_reset2(bus, HubPort { hub, port })
 }

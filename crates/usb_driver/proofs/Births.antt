@@ -1,7 +1,6 @@
 -- A new child: a place is taken, and it stands above its hub. Assumes nothing.
 use mathlib.Core.Path.{◌≡◌, refl, ap, subst}
 use mathlib.Core.Bool.{false≢true}
-use mathlib.Core.List.{List, [], ◌∷◌}
 use Prim.Native.Nat.{ℕ, ◌+◌, ◌≤◌, ◌<◌}
 use native.Mathlib.Omega.{arith}
 use Rattle.usb_store.specs.Layout.{speed_field, status_field}

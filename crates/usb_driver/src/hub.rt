@@ -11,6 +11,7 @@ ghost use Rattle.usb_driver.specs.Bus.{OnBus};
 use crate::usbd::usb_attach_device;
 use usb_check::{end_check, start_check};
 use usb_child::new_child;
+use usb_hub::ports::HubPort;
 use usb_hub::requests::ignore;
 use usb_hub_attach::ready_hub;
 use usb_store::MAX_CHILDREN;
@@ -25,42 +26,42 @@ pub fn hub_attach(bus: &mut UsbBus, hub: usize) -> Result<(), Failure>
     ready_hub(bus, hub)?;
     let count = bus.byte_at(hub, MAX_CHILDREN) as usize;
     for port in 0..count {
-        ignore(hub_check_connection(bus, hub, port))?;
+        ignore(hub_check_connection(bus, HubPort { hub, port }))?;
     }
     Ok(())
 }
 
 #[cycle(attach)]
-pub fn hub_check_connection(bus: &mut UsbBus, hub: usize, port: usize) -> Result<(), Failure>
-    requires { OnBus hub bus.old × (port < ports_per_hub) }
+pub fn hub_check_connection(bus: &mut UsbBus, at: HubPort) -> Result<(), Failure>
+    requires { OnBus at.hub bus.old }
     ensures { (n : ℕ) → free_places bus.old.store.now ≤ n
-        → Does (Model.hub_check_connection (attach_below n) hub port) bus.old bus.new result }
+        → Does (Model.hub_check_connection (attach_below n) at.hub at.port) bus.old bus.new result }
 {
-    let due = start_check(bus, hub, port)?;
-    change_if(bus, hub, port, due.dropped)?;
-    change_if(bus, hub, port, due.changed)?;
-    end_check(bus, hub, port, due.status)
+    let due = start_check(bus, at)?;
+    change_if(bus, at, due.dropped)?;
+    change_if(bus, at, due.changed)?;
+    end_check(bus, at, due.status)
 }
 
 // A connection change that is due; of its result only a stop counts.
 #[cycle(attach)]
-fn change_if(bus: &mut UsbBus, hub: usize, port: usize, due: bool) -> Result<(), Failure>
-    requires { OnBus hub bus.old × (port < ports_per_hub) }
+fn change_if(bus: &mut UsbBus, at: HubPort, due: bool) -> Result<(), Failure>
+    requires { OnBus at.hub bus.old }
     ensures { (n : ℕ) → free_places bus.old.store.now ≤ n
-        → Does (when due (ignore (Model.hub_port_connection_changed (attach_below n) hub port))) bus.old bus.new result }
+        → Does (when due (ignore (Model.hub_port_connection_changed (attach_below n) at.hub at.port))) bus.old bus.new result }
 {
     if due {
-        return ignore(hub_port_connection_changed(bus, hub, port));
+        return ignore(hub_port_connection_changed(bus, at));
     }
     Ok(())
 }
 
 #[cycle(attach)]
-pub fn hub_port_connection_changed(bus: &mut UsbBus, hub: usize, port: usize) -> Result<(), Failure>
-    requires { OnBus hub bus.old × (port < ports_per_hub) }
+pub fn hub_port_connection_changed(bus: &mut UsbBus, at: HubPort) -> Result<(), Failure>
+    requires { OnBus at.hub bus.old }
     ensures { (n : ℕ) → free_places bus.old.store.now ≤ n
-        → Does (Model.hub_port_connection_changed (attach_below n) hub port) bus.old bus.new result }
+        → Does (Model.hub_port_connection_changed (attach_below n) at.hub at.port) bus.old bus.new result }
 {
-    let place = new_child(bus, hub, port)?;
+    let place = new_child(bus, at)?;
     usb_attach_device(bus, place)
 }

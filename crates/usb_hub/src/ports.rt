@@ -70,18 +70,27 @@ pub fn child_of(hub: HubDevice, port: usize) -> Option<usize>
     }
 }
 
-// The stored status of a port of the hub at a place.
-pub fn port_status(store: &[u8], hub: usize, port: usize) -> u32
-    requires { (length store.now ≡ store_length) × (hub < place_count) × (port < ports_per_hub) }
-    ensures { result ≡ number_at store.now hub (port_status_field port) 4 }
-{
-    status_of(load_hub(store, hub), port)
+// A port of a hub: the hub's place, and the port counted from 0.
+#[derive(Clone, Copy)]
+pub struct HubPort {
+    pub hub: usize,
+    pub port: usize,
+    ghost of_hub: { hub < place_count },
+    ghost in_range: { port < ports_per_hub },
 }
 
-// The place of the child at a port of the hub at a place.
-pub fn port_child(store: &[u8], hub: usize, port: usize) -> Option<usize>
-    requires { (length store.now ≡ store_length) × (hub < place_count) × (port < ports_per_hub) }
-    ensures { result ≡ place_of (byte_at store.now hub (child_field port)) }
+// The stored status of a hub's port.
+pub fn port_status(store: &[u8], at: HubPort) -> u32
+    requires { length store.now ≡ store_length }
+    ensures { result ≡ number_at store.now at.hub (port_status_field at.port) 4 }
 {
-    child_of(load_hub(store, hub), port)
+    status_of(load_hub(store, at.hub), at.port)
+}
+
+// The place of the child at a hub's port.
+pub fn port_child(store: &[u8], at: HubPort) -> Option<usize>
+    requires { length store.now ≡ store_length }
+    ensures { result ≡ place_of (byte_at store.now at.hub (child_field at.port)) }
+{
+    child_of(load_hub(store, at.hub), at.port)
 }

@@ -1,10 +1,11 @@
 // The requests to a hub and to its ports.
 ghost use Rattle.std.specs.Prelude.{◌≡◌, ◌≤◌, ◌<◌};
-ghost use Rattle.usb_store.specs.Layout.{place_count, ports_per_hub};
+ghost use Rattle.usb_store.specs.Layout.{place_count};
 ghost use Rattle.usb_model.specs.Hub as Model;
 ghost use Rattle.usb_transfer.specs.Runs.{Ready, Does};
 ghost use Rattle.usb_hub.specs.Parts.{ignored, feature_request, power_delay, power_ports};
 
+use crate::ports::HubPort;
 use usb_message::{control, read};
 use usb_model::Buffer;
 use usb_store::{HUB_STATUS, MAX_CHILDREN, PORT_STATUS, POWER_GOOD_DELAY};
@@ -81,16 +82,16 @@ pub fn hub_change_port_feature(
     Ok(())
 }
 
-pub fn hub_port_get_status(bus: &mut UsbBus, hub: usize, port: usize) -> Result<(), Failure>
-    requires { Ready bus.old × (hub < place_count) × (port < ports_per_hub) }
-    ensures { Does (Model.hub_port_get_status hub port) bus.old bus.new result }
+pub fn hub_port_get_status(bus: &mut UsbBus, at: HubPort) -> Result<(), Failure>
+    requires { Ready bus.old }
+    ensures { Does (Model.hub_port_get_status at.hub at.port) bus.old bus.new result }
 {
-    let request = device_request(PORT, GET_STATUS, 0, (port + 1) as u16, 4);
+    let request = device_request(PORT, GET_STATUS, 0, (at.port + 1) as u16, 4);
     let buffer = Buffer {
-        field: PORT_STATUS + 4 * port,
+        field: PORT_STATUS + 4 * at.port,
         room: 4,
     };
-    read(bus, hub, request, 4, buffer)?;
+    read(bus, at.hub, request, 4, buffer)?;
     Ok(())
 }
 

@@ -1,13 +1,11 @@
 // device/hub.rs: HubPortReset2.
 #![tactic(auto)]
 
-ghost use Rattle.std.specs.Prelude.{◌<◌};
-ghost use Rattle.usb_store.specs.Layout.{place_count, ports_per_hub};
 ghost use Rattle.usb_model.specs.Hub as Model;
 ghost use Rattle.usb_transfer.specs.Runs.{Ready, Does};
 ghost use Rattle.usb_port.specs.Parts.{delayed_status, reset_port};
 
-use usb_hub::ports::{has, port_status};
+use usb_hub::ports::{HubPort, has, port_status};
 use usb_hub::requests::{
     C_PORT_RESET, PORT_RESET, hub_change_port_feature, hub_port_get_status, ignore,
 };
@@ -15,46 +13,38 @@ use usb_transfer::bus::UsbBus;
 use usb_types::types::{ErrorCode, Failure};
 
 // A wait, and a read of the port's status.
-pub fn delayed_status(
-    bus: &mut UsbBus,
-    hub: usize,
-    port: usize,
-    microseconds: u32,
-) -> Result<(), Failure>
-    requires { Ready bus.old × (hub < place_count) × (port < ports_per_hub) }
-    ensures { Does (delayed_status hub port microseconds) bus.old bus.new result }
+pub fn delayed_status(bus: &mut UsbBus, at: HubPort, microseconds: u32) -> Result<(), Failure>
+    requires { Ready bus.old }
+    ensures { Does (delayed_status at.hub at.port microseconds) bus.old bus.new result }
 {
     bus.micro_delay(microseconds)?;
-    hub_port_get_status(bus, hub, port)
+    hub_port_get_status(bus, at)
 }
 
 // "at most 21 status reads".
 const RESET_READS: usize = 21;
 
 // Reads until one shows the reset change.
-fn await_reset(bus: &mut UsbBus, hub: usize, port: usize) -> Result<bool, Failure>
-    requires { Ready bus.old × (hub < place_count) × (port < ports_per_hub) }
-    ensures { Does (Model.await_reset 21 hub port) bus.old bus.new result }
+fn await_reset(bus: &mut UsbBus, at: HubPort) -> Result<bool, Failure>
+    requires { Ready bus.old }
+    ensures { Does (Model.await_reset 21 at.hub at.port) bus.old bus.new result }
 {
     for _read in 0..RESET_READS {
-        delayed_status(bus, hub, port, 50000)?;
-        if has(
-            port_status(bus.stored(), hub, port),
-            usb_hub::ports::C_PORT_RESET,
-        ) {
+        delayed_status(bus, at, 50000)?;
+        if has(port_status(bus.stored(), at), usb_hub::ports::C_PORT_RESET) {
             return Ok(true);
         }
     }
     Ok(false)
 }
 
-pub fn hub_port_reset2(bus: &mut UsbBus, hub: usize, port: usize) -> Result<(), Failure>
-    requires { Ready bus.old × (hub < place_count) × (port < ports_per_hub) }
-    ensures { Does (Model.hub_port_reset2 hub port) bus.old bus.new result }
+pub fn hub_port_reset2(bus: &mut UsbBus, at: HubPort) -> Result<(), Failure>
+    requires { Ready bus.old }
+    ensures { Does (Model.hub_port_reset2 at.hub at.port) bus.old bus.new result }
 {
-    reset_port(bus, hub, port)?;
-    let seen = await_reset(bus, hub, port)?;
-    hub_change_port_feature(bus, hub, C_PORT_RESET, port, false)?;
+    reset_port(bus, at)?;
+    let seen = await_reset(bus, at)?;
+    hub_change_port_feature(bus, at.hub, C_PORT_RESET, at.port, false)?;
     if !seen {
         return Err(Failure::Error(ErrorCode::Timeout));
     }
@@ -62,10 +52,10 @@ pub fn hub_port_reset2(bus: &mut UsbBus, hub: usize, port: usize) -> Result<(), 
 }
 
 // The change is cleared, whatever comes of it, and the port is reset.
-fn reset_port(bus: &mut UsbBus, hub: usize, port: usize) -> Result<(), Failure>
-    requires { Ready bus.old × (hub < place_count) × (port < ports_per_hub) }
-    ensures { Does (reset_port hub port) bus.old bus.new result }
+fn reset_port(bus: &mut UsbBus, at: HubPort) -> Result<(), Failure>
+    requires { Ready bus.old }
+    ensures { Does (reset_port at.hub at.port) bus.old bus.new result }
 {
-    ignore(hub_change_port_feature(bus, hub, C_PORT_RESET, port, false))?;
-    hub_change_port_feature(bus, hub, PORT_RESET, port, true)
+    ignore(hub_change_port_feature(bus, at.hub, C_PORT_RESET, at.port, false))?;
+    hub_change_port_feature(bus, at.hub, PORT_RESET, at.port, true)
 }

@@ -1,14 +1,12 @@
 // device/hub.rs, HubPortReset.
-// hub and port stay two parameters, as in usb_hub: a struct of both would be taken apart at each call.
 #![tactic(auto)]
 
-ghost use Rattle.std.specs.Prelude.{◌≡◌, ◌<◌};
-ghost use Rattle.usb_store.specs.Layout.{place_count, ports_per_hub};
+ghost use Rattle.std.specs.Prelude.{◌≡◌};
 ghost use Rattle.usb_model.specs.Hub as Model;
 ghost use Rattle.usb_transfer.specs.Runs.{Ready, Does};
 ghost use Rattle.usb_retry.specs.Parts.{reset_or_enabled, is_lost, try_reset};
 
-use usb_hub::ports::{has, port_status};
+use usb_hub::ports::{HubPort, has, port_status};
 use usb_hub::requests::{C_PORT_RESET, PORT_RESET, hub_change_port_feature, ignore};
 use usb_port::delayed_status;
 use usb_transfer::bus::UsbBus;
@@ -29,13 +27,13 @@ fn reset_or_enabled(status: u32) -> bool
 // Reads until one shows the reset change or an enabled port; one seen in the tenth counts as not seen. Apart from usb_port's
 // await_reset: they differ in count, wait, test and in what the last read counts, and a function that takes all four is no plainer.
 #[tactic(auto, using(crate::proofs::Polls::turns))]
-fn await_enabled(bus: &mut UsbBus, hub: usize, port: usize) -> Result<bool, Failure>
-    requires { Ready bus.old × (hub < place_count) × (port < ports_per_hub) }
-    ensures { Does (Model.await_enabled 10 hub port) bus.old bus.new result }
+fn await_enabled(bus: &mut UsbBus, at: HubPort) -> Result<bool, Failure>
+    requires { Ready bus.old }
+    ensures { Does (Model.await_enabled 10 at.hub at.port) bus.old bus.new result }
 {
     for read in 0..READS {
-        delayed_status(bus, hub, port, 20000)?;
-        if reset_or_enabled(port_status(bus.stored(), hub, port)) {
+        delayed_status(bus, at, 20000)?;
+        if reset_or_enabled(port_status(bus.stored(), at)) {
             return Ok(read + 1 != READS);
         }
     }
@@ -52,13 +50,13 @@ fn lost(status: u32) -> bool
 
 // One try of HubPortReset: was the port seen enabled?
 #[tactic(auto, unfolding(crate::specs::Parts::try_reset, usb_model::specs::Hub::port_status), using(usb_transfer::proofs::Steps::steps))]
-fn try_reset(bus: &mut UsbBus, hub: usize, port: usize) -> Result<bool, Failure>
-    requires { Ready bus.old × (hub < place_count) × (port < ports_per_hub) }
-    ensures { Does (try_reset hub port) bus.old bus.new result }
+fn try_reset(bus: &mut UsbBus, at: HubPort) -> Result<bool, Failure>
+    requires { Ready bus.old }
+    ensures { Does (try_reset at.hub at.port) bus.old bus.new result }
 {
-    hub_change_port_feature(bus, hub, PORT_RESET, port, true)?;
-    let seen = await_enabled(bus, hub, port)?;
-    let status = port_status(bus.stored(), hub, port);
+    hub_change_port_feature(bus, at.hub, PORT_RESET, at.port, true)?;
+    let seen = await_enabled(bus, at)?;
+    let status = port_status(bus.stored(), at);
     if seen && lost(status) {
         return Err(Failure::Error(ErrorCode::Device));
     }
@@ -66,12 +64,12 @@ fn try_reset(bus: &mut UsbBus, hub: usize, port: usize) -> Result<bool, Failure>
 }
 
 #[tactic(auto, using(crate::proofs::Tries::turns))]
-fn reset_tries(bus: &mut UsbBus, hub: usize, port: usize) -> Result<(), Failure>
-    requires { Ready bus.old × (hub < place_count) × (port < ports_per_hub) }
-    ensures { Does (Model.reset_tries 3 hub port) bus.old bus.new result }
+fn reset_tries(bus: &mut UsbBus, at: HubPort) -> Result<(), Failure>
+    requires { Ready bus.old }
+    ensures { Does (Model.reset_tries 3 at.hub at.port) bus.old bus.new result }
 {
     for _tried in 0..TRIES {
-        if try_reset(bus, hub, port)? {
+        if try_reset(bus, at)? {
             return Ok(());
         }
     }
@@ -79,11 +77,11 @@ fn reset_tries(bus: &mut UsbBus, hub: usize, port: usize) -> Result<(), Failure>
 }
 
 #[tactic(auto, unfolding(usb_model::specs::Hub::hub_port_reset), using(usb_hub::proofs::Parts::steps))]
-pub fn hub_port_reset(bus: &mut UsbBus, hub: usize, port: usize) -> Result<(), Failure>
-    requires { Ready bus.old × (hub < place_count) × (port < ports_per_hub) }
-    ensures { Does (Model.hub_port_reset hub port) bus.old bus.new result }
+pub fn hub_port_reset(bus: &mut UsbBus, at: HubPort) -> Result<(), Failure>
+    requires { Ready bus.old }
+    ensures { Does (Model.hub_port_reset at.hub at.port) bus.old bus.new result }
 {
-    reset_tries(bus, hub, port)?;
-    ignore(hub_change_port_feature(bus, hub, PORT_RESET, port, false))?;
-    ignore(hub_change_port_feature(bus, hub, C_PORT_RESET, port, false))
+    reset_tries(bus, at)?;
+    ignore(hub_change_port_feature(bus, at.hub, PORT_RESET, at.port, false))?;
+    ignore(hub_change_port_feature(bus, at.hub, C_PORT_RESET, at.port, false))
 }

@@ -12,7 +12,7 @@ returns-in_err-place-clause-gives c =
 
 pub place_child-requires : goal.place_child-requires
 place_child-requires c =
-    ((placed c.in_ok-reset_changed.ensures.fit c.in_ok-place.ensures.gives).fit, c.requires.1, c.requires.2, c.in_ok-place.ensures.inside)
+    ((placed c.in_ok-reset_changed.ensures.fit c.in_ok-place.ensures.gives).fit, c.in_ok-place.ensures.inside)
 
 pub returns-in_err-place_child-clause-gives : goal.returns-in_err-place_child-clause-gives
 unfolding new_child

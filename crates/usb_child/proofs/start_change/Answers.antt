@@ -6,5 +6,5 @@ use Rattle.usb_child.proofs.start_change.Goals as goal
 pub returns : goal.returns
 unfolding start_change
 returns c =
-    next _ (logged c.requires.0 c.in_ok-dwc_update_host_frame_interval.ensures) (next _ c.in_ok-hub_port_get_status.ensures
+    next _ (logged c.requires c.in_ok-dwc_update_host_frame_interval.ensures) (next _ c.in_ok-hub_port_get_status.ensures
     (next _ c.in_ok-hub_change_port_feature.ensures c.hub_port_get_status-2.ensures))

@@ -2,7 +2,7 @@
 -- Assumes nothing.
 use Rattle.std.proofs.Common.{◌∙◌, ◌<◌, arith, le_refl, sym}
 use Rattle.usb_transfer.proofs.Regroups.{does_as}
-use Rattle.usb_transfer.proofs.Steps.{bound, bound_failed, next, next_failed, got, done_if, done_unless, going, ends_with}
+use Rattle.usb_transfer.proofs.Steps.{bound, bound_failed, next, next_failed, got, done_if, done_unless, ends_with}
 use Rattle.usb_transfer.proofs.Steps.{each_starts, each_last, each_failed, each_goes}
 use Rattle.usb_hub.proofs.Parts.{ignores}
 use Rattle.usb_driver.proofs.Births.{born}
@@ -16,7 +16,7 @@ pub hub::change_if-returns-then-due : goal.hub::change_if-returns-then-due
 hub::change_if-returns-then-due t c n h = done_if c.if-due.true (ignores c.ignore.ensures (c.hub_port_connection_changed.ensures n h))
 
 pub hub::change_if-returns : goal.hub::change_if-returns
-hub::change_if-returns t c n h = done_unless c.requires.0.fit _ c.if-due.false
+hub::change_if-returns t c n h = done_unless c.requires.fit _ c.if-due.false
 
 -- ---- hub_attach
 
@@ -28,12 +28,17 @@ hub::hub_attach-loop-port-init t c =
     let bus = (ready_after c.requires c.in_ok-ready_hub.ensures).bus in
     record { after = record { bus = bus; free = le_refl _ }; goes = λ n h. each_starts _ _ bus.fit }
 
+pub hub::hub_attach-invariant_of-hub_check_connection : goal.hub::hub_attach-invariant_of-hub_check_connection
+hub::hub_attach-invariant_of-hub_check_connection t c =
+    let ready = ready_after c.requires c.in_ok-ready_hub.ensures in
+    let low : c.loop-port.port < 10 = omega (arith, c.byte_at-count.ensures, ready.bus.good.most c.args.hub) in
+    record { of_hub = c.requires.inside; in_range = low }
+
 pub hub::hub_attach-hub_check_connection-requires : goal.hub::hub_attach-hub_check_connection-requires
 hub::hub_attach-hub_check_connection-requires t c =
     let ready = ready_after c.requires c.in_ok-ready_hub.ensures in
     let after = c.loop-port.invariant.after in
-    let low : c.loop-port.port < 10 = omega (arith, c.byte_at-count.ensures, ready.bus.good.most c.args.hub) in
-    (omega (arith, c.decreases, ready.free, after.free), (after.bus, low))
+    (omega (arith, c.decreases, ready.free, after.free), after.bus)
 
 pub hub::hub_attach-returns-in_err-ignore : goal.hub::hub_attach-returns-in_err-ignore
 hub::hub_attach-returns-in_err-ignore t c n h =
@@ -71,36 +76,36 @@ hub::hub_check_connection-returns-in_err-due t c n h = does_as (checks _ _ _) (b
 
 pub hub::hub_check_connection-change_if-requires : goal.hub::hub_check_connection-change_if-requires
 hub::hub_check_connection-change_if-requires t c =
-    let started = started_after c.requires.0 _ c.requires.1 c.in_ok-due.ensures in
-    (omega (arith, c.decreases, started.free), (started.bus, c.requires.1))
+    let started = started_after c.requires _ c.args.at.in_range c.in_ok-due.ensures in
+    (omega (arith, c.decreases, started.free), started.bus)
 
 pub hub::hub_check_connection-returns-in_err-change_if : goal.hub::hub_check_connection-returns-in_err-change_if
 hub::hub_check_connection-returns-in_err-change_if t c n h =
-    let started = started_after c.requires.0 _ c.requires.1 c.in_ok-due.ensures in
+    let started = started_after c.requires _ c.args.at.in_range c.in_ok-due.ensures in
     let change = c.in_err-change_if.ensures n (omega (arith, started.free)) in
     does_as (checks _ _ _) (bound _ c.in_ok-due.ensures (next_failed _ change c.from_residual-in_err-change_if.ensures))
 
 pub hub::hub_check_connection-change_if-requires-2 : goal.hub::hub_check_connection-change_if-requires-2
 hub::hub_check_connection-change_if-requires-2 t c =
-    let started = started_after c.requires.0 _ c.requires.1 c.in_ok-due.ensures in
-    let changed = changed_after _ started.bus c.requires.1 _ (c.change_if.ensures _ (le_refl _)) in
-    (omega (arith, c.decreases, started.free, changed.free), (changed.bus, c.requires.1))
+    let started = started_after c.requires _ c.args.at.in_range c.in_ok-due.ensures in
+    let changed = changed_after _ started.bus c.args.at.in_range _ (c.change_if.ensures _ (le_refl _)) in
+    (omega (arith, c.decreases, started.free, changed.free), changed.bus)
 
 pub hub::hub_check_connection-returns-in_err-change_if-2 : goal.hub::hub_check_connection-returns-in_err-change_if-2
 hub::hub_check_connection-returns-in_err-change_if-2 t c n h =
-    let started = started_after c.requires.0 _ c.requires.1 c.in_ok-due.ensures in
-    let changed = changed_after _ started.bus c.requires.1 _ (c.change_if.ensures _ (le_refl _)) in
+    let started = started_after c.requires _ c.args.at.in_range c.in_ok-due.ensures in
+    let changed = changed_after _ started.bus c.args.at.in_range _ (c.change_if.ensures _ (le_refl _)) in
     let change = c.in_ok-change_if.ensures n (omega (arith, started.free)) in
     let again = c.in_err-change_if-2.ensures n (omega (arith, started.free, changed.free)) in
     does_as (checks _ _ _) (bound _ c.in_ok-due.ensures (next _ change (next_failed _ again c.from_residual-in_err-change_if-2.ensures)))
 
 pub hub::hub_check_connection-end_check-requires : goal.hub::hub_check_connection-end_check-requires
-hub::hub_check_connection-end_check-requires t c = ((c.change_if-2.ensures _ (le_refl _)).fit, c.requires.0.inside, c.requires.1)
+hub::hub_check_connection-end_check-requires t c = (c.change_if-2.ensures _ (le_refl _)).fit
 
 pub hub::hub_check_connection-returns : goal.hub::hub_check_connection-returns
 hub::hub_check_connection-returns t c n h =
-    let started = started_after c.requires.0 _ c.requires.1 c.in_ok-due.ensures in
-    let changed = changed_after _ started.bus c.requires.1 _ (c.change_if.ensures _ (le_refl _)) in
+    let started = started_after c.requires _ c.args.at.in_range c.in_ok-due.ensures in
+    let changed = changed_after _ started.bus c.args.at.in_range _ (c.change_if.ensures _ (le_refl _)) in
     let change = c.in_ok-change_if.ensures n (omega (arith, started.free)) in
     let again = c.in_ok-change_if-2.ensures n (omega (arith, started.free, changed.free)) in
     does_as (checks _ _ _) (bound _ c.in_ok-due.ensures (next _ change (next _ again c.end_check.ensures)))
@@ -112,12 +117,12 @@ hub::hub_port_connection_changed-returns-in_err-place t c n h = does_as (changes
 
 pub hub::hub_port_connection_changed-usb_attach_device-requires : goal.hub::hub_port_connection_changed-usb_attach_device-requires
 hub::hub_port_connection_changed-usb_attach_device-requires t c =
-    let child = born _ _ _ c.requires.0 c.requires.1 c.in_ok-place.ensures.gives in
+    let child = born _ _ _ c.requires c.args.at.in_range c.in_ok-place.ensures.gives in
     (omega (arith, c.decreases, child.free), child.bus)
 
 pub hub::hub_port_connection_changed-returns : goal.hub::hub_port_connection_changed-returns
 hub::hub_port_connection_changed-returns t c n h =
-    let child = born _ _ _ c.requires.0 c.requires.1 c.in_ok-place.ensures.gives in
+    let child = born _ _ _ c.requires c.args.at.in_range c.in_ok-place.ensures.gives in
     does_as (changes _ _ _) (bound _ c.in_ok-place.ensures.gives (c.usb_attach_device.ensures n (omega (arith, child.free))))
 
 -- ---- usb_attach_device

@@ -6,7 +6,7 @@ use Rattle.usb_port.proofs.Awaits.{reset_failed, reset_seen, reset_goes, reset_n
 use Rattle.usb_port.proofs.await_reset.Goals as goal
 
 pub loop-read-init : goal.loop-read-init
-loop-read-init c = going _ c.requires.0
+loop-read-init c = going _ c.requires
 
 pub returns-in_err-delayed_status : goal.returns-in_err-delayed_status
 returns-in_err-delayed_status c =

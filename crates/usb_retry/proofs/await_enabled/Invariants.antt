@@ -5,4 +5,4 @@ use Rattle.usb_transfer.proofs.Steps.{Going}
 use Rattle.usb_retry.proofs.await_enabled.Given as goal
 
 abbrev pub invariant-loop-read : goal.invariant-loop-read
-invariant-loop-read l = Going (await_enabled 10 l.hub l.port) l.initial.bus (await_enabled (10 - l.read) l.hub l.port) l.bus
+invariant-loop-read l = Going (await_enabled 10 l.at.hub l.at.port) l.initial.bus (await_enabled (10 - l.read) l.at.hub l.at.port) l.bus

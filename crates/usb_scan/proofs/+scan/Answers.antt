@@ -41,8 +41,8 @@ scan_port-returns-in_default-port_child t c n m h l = passes_none _ _ _ _ (c.in_
 
 pub scan_port-byte_at-requires : goal.scan_port-byte_at-requires
 scan_port-byte_at-requires t c =
-    let after = checked_after _ c.requires.0 c.requires.1 (c.in_default.ensures _ (le_refl _)) in
-    let bus = (child_bus _ _ after.bus c.requires.1 (child_is _ (rw c.stored.ensures at c.in-Some.ensures))).1 in
+    let after = checked_after _ c.requires c.args.at.in_range (c.in_default.ensures _ (le_refl _)) in
+    let bus = (child_bus _ _ after.bus c.args.at.in_range (child_is _ (rw c.stored.ensures at c.in-Some.ensures))).1 in
     record { whole = bus.fit.whole; inside = bus.inside; room = omega arith }
 
 pub scan_port-returns-then-byte_at-eq0 : goal.scan_port-returns-then-byte_at-eq0
@@ -51,13 +51,13 @@ scan_port-returns-then-byte_at-eq0 t c n m h l =
 
 pub scan_port-hub_check_for_change-requires : goal.scan_port-hub_check_for_change-requires
 scan_port-hub_check_for_change-requires t c =
-    let after = checked_after _ c.requires.0 c.requires.1 (c.in_default.ensures _ (le_refl _)) in
-    let above = child_bus _ _ after.bus c.requires.1 (child_is _ (rw c.stored.ensures at c.in-Some.ensures)) in
+    let after = checked_after _ c.requires c.args.at.in_range (c.in_default.ensures _ (le_refl _)) in
+    let above = child_bus _ _ after.bus c.args.at.in_range (child_is _ (rw c.stored.ensures at c.in-Some.ensures)) in
     (omega (arith, c.decreases, above.0, above.1.inside), above.1)
 
 pub scan_port-returns : goal.scan_port-returns
 scan_port-returns t c n m h l =
-    let after = checked_after _ c.requires.0 c.requires.1 (c.in_default.ensures _ (le_refl _)) in
-    let above = child_bus _ _ after.bus c.requires.1 (child_is _ (rw c.stored.ensures at c.in-Some.ensures)) in
+    let after = checked_after _ c.requires c.args.at.in_range (c.in_default.ensures _ (le_refl _)) in
+    let above = child_bus _ _ after.bus c.args.at.in_range (child_is _ (rw c.stored.ensures at c.in-Some.ensures)) in
     let scan = c.hub_check_for_change.ensures n m (omega (arith, after.free)) (omega (arith, above.0)) in
     goes_below _ _ _ _ (c.in_default.ensures n h) _ (child_is _ (rw c.stored.ensures at c.in-Some.ensures)) (λ z. c.if-byte_at-eq0.false (c.byte_at.ensures ∙ z)) scan

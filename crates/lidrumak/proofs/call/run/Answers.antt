@@ -10,7 +10,7 @@ returns-in-Scan c =
 
 pub returns-in-PortCheck : goal.returns-in-PortCheck
 returns-in-PortCheck c =
-    let does = c.hub_check_connection.ensures 32 (free_most _) in
+    let does = rw (c.hub_port.ensures.0, c.hub_port.ensures.1) at c.hub_check_connection.ensures 32 (free_most _) in
     rw c.in-PortCheck.is (record { does = does; store = does.lends.store; log = does.lends.log })
 
 pub returns-in-ChildCheck : goal.returns-in-ChildCheck
@@ -20,5 +20,5 @@ returns-in-ChildCheck c =
 
 pub returns-in-ConnectionChange : goal.returns-in-ConnectionChange
 returns-in-ConnectionChange c =
-    let does = c.hub_port_connection_changed.ensures 32 (free_most _) in
+    let does = rw (c.hub_port-in-ConnectionChange.ensures.0, c.hub_port-in-ConnectionChange.ensures.1) at c.hub_port_connection_changed.ensures 32 (free_most _) in
     rw c.in-ConnectionChange.is (record { does = does; store = does.lends.store; log = does.lends.log })

@@ -5,4 +5,4 @@ use Rattle.usb_hub.specs.Parts.{place_of}
 use Rattle.usb_hub.proofs.ports.port_child.Goals as goal
 
 pub returns : goal.returns
-returns c = c.child_of.ensures ∙ rw c.load_hub.ensures (ap place_of (child_at _ _ _ c.requires.2))
+returns c = c.child_of.ensures ∙ rw c.load_hub.ensures (ap place_of (child_at _ _ _ c.args.at.in_range))
