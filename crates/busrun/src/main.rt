@@ -31,7 +31,7 @@ fn actions(log: &[u8]) -> usize
     leading(actions)
 }
 
-// Attaches the root hub; how many bytes were logged.
+// Attaches the root hub; how many bytes were logged. The call writes a slice that it is lent, so the log has its count beside.
 fn attach(outcomes: &[u8], log: &mut [u8]) -> usize
     requires { log.old ≡ replicate log_length 0 }
     ensures log_after { log.new ≡ (attached outcomes.now).log }

@@ -29,6 +29,7 @@ pub enum Call {
     ConnectionChange(u32, u32),
 }
 
+// A match, as in `run`: the verdicts take unlike numbers.
 fn judge(call: Call, old: &[u8], new_len: usize) -> Result<(), Refusal>
     ensures { Judges (verdict call) old.now new_len (told result) }
 {
@@ -44,6 +45,7 @@ fn judge(call: Call, old: &[u8], new_len: usize) -> Result<(), Refusal>
     }
 }
 
+// By `as`: std has no `From` of u32 for usize.
 fn hub_port(hub: u32, port: u32) -> HubPort
     requires { (hub < place_count) × (port < ports_per_hub) }
     ensures { (result.hub ≡ hub) × (result.port ≡ port) }

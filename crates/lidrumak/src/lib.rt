@@ -1,4 +1,4 @@
-// The calls: numbers and byte slices.
+// The calls: numbers and byte slices, each by the name under which C calls it. What they share is `enter`.
 #![tactic(auto)]
 
 mod call;

@@ -25,9 +25,8 @@ fn write_garbled<W: Write>(out: &mut W) -> io::Result<()>
     out.write_all(b"a record is garbled\n")
 }
 
-// The buffers are lent, and their lengths stand in the head: a record allocates nothing.
-
-// Reads n bytes into the buffer; did the file hold as many?
+// Reads n bytes into the buffer; did the file hold as many? The buffers are lent, and their lengths stand in the head: a record allocates
+// nothing. Reader and out are two borrows of the caller's, here and in replays and vectors: a struct of both would be made at each call.
 fn is_read<R: Read>(reader: &mut R, buffer: &mut [u8], n: usize) -> io::Result<bool>
     requires { n ≤ length buffer.old }
     ensures asks { IfOk result (Asks n buffer.old buffer.new) }
@@ -73,7 +72,7 @@ pub fn read_call<R: Read, W: Write>(
 }
 
 // Reads a walk of walks.bin: at most 65,536 bytes of descriptors. A garbled one is written to out as such. Where a read
-// or a write fails, part of a walk was read.
+// or a write fails, part of a walk was read. Apart from read_call, since the records have other heads and one buffer less.
 #[tactic(auto, unfolding(crate::specs::Heads::walk_fits))]
 pub fn read_walk<R: Read, W: Write>(
     reader: &mut R,

@@ -22,6 +22,7 @@ pub const MAX_BYTES: usize = 65536;
 // What a call is run on.
 #[derive(Clone, Copy)]
 pub struct Asked {
+    // Any byte of a file is read into it: bits 0 and 1 are tested, and the others are passed over.
     pub flags: u8,
     // The file's byte and no EntryPoint, since asked_in cannot fail, and the stores of a sequence are for any entry.
     pub entry: u8,
@@ -61,7 +62,7 @@ fn bytes_at<const N: usize>(bytes: &[u8], at: usize) -> [u8; N]
     part
 }
 
-// A number of 4 bytes at any offset. That of usb_store is for a field of a place alone, and promises that.
+// A number of 4 bytes at any offset. That of usb_store, and its array_at, are for a field of a place alone, and promise that.
 #[tactic(auto, using(crate::proofs::Bytes::number_4))]
 pub fn u32_at(bytes: &[u8], at: usize) -> u32
     requires { at + 4 ≤ length bytes.now }
@@ -79,7 +80,7 @@ fn u64_at(bytes: &[u8], at: usize) -> u64
     u64::from_le_bytes(bytes_at(bytes, at))
 }
 
-// asked_in, recorded_in and walk_in take any slice of the length; From<&[u8; 48]> would take less.
+// asked_in, recorded_in and walk_in take any slice of the length; From<&[u8; 48]> and From<&[u8; 16]> would take less.
 #[tactic(auto, unfolding(crate::specs::Heads::asked_in))]
 pub fn asked_in(bytes: &[u8]) -> Asked
     requires { length bytes.now ≡ 48 }

@@ -64,7 +64,7 @@ fn next_call<R: Read, W: Write>(
     Ok(Some(Replayed { entry, agrees }))
 }
 
-// Reads a walk of walks.bin and replays it.
+// Reads a walk of walks.bin and replays it. Apart from next_call: a walk has no store, one buffer, and its own entry point.
 #[tactic(auto, unfolding(recorded::specs::Heads::walk_fits))]
 fn next_walk<R: Read, W: Write>(reader: &mut R, out: &mut W) -> io::Result<Option<Replayed>>
     ensures { IfOk result (λ next. IfSome next (IsOf Walk)) }
@@ -81,7 +81,7 @@ fn next_walk<R: Read, W: Write>(reader: &mut R, out: &mut W) -> io::Result<Optio
 }
 
 // Reads a call or a walk and replays it. A garbled one is written to out as such. Where a read or a write fails, nothing is
-// replayed, and store stays as it is.
+// replayed, and store stays as it is. A match of two cases: a closure for each would be no plainer.
 pub fn next_record<R: Read, W: Write>(
     kind: RecordKind,
     reader: &mut R,

@@ -24,6 +24,7 @@ use usb_entry::reply::Reply;
 // What new store, log and record hold before each call.
 const FILL: u8 = 0xEE;
 
+// A match over the entry points of the library, which are functions of unlike parameters.
 #[tactic(auto, unfolding(crate::specs::Replays::entry_point))]
 fn run(asked: Asked, old: &[u8], new: &mut [u8], outcomes: &[u8], log: &mut [u8]) -> Reply
     ensures { left result new.new log.new
@@ -44,6 +45,7 @@ fn run(asked: Asked, old: &[u8], new: &mut [u8], outcomes: &[u8], log: &mut [u8]
     }
 }
 
+// Field by field, so that the sums are made only where the numbers agree.
 fn agrees(recorded: Recorded, reply: Reply, new: &[u8], log: &[u8]) -> bool
     ensures { result ≡ Replays·agrees recorded (left reply new.now log.now) }
 {

@@ -1,4 +1,4 @@
-// The stores of a sequence of calls.
+// The stores of a sequence of calls. A sequence's store is a slice of a store's length, here and in replays: an array would take fewer.
 ghost use Rattle.std.specs.Prelude.{◌≡◌, ◌*◌, ◌≤◌, length};
 ghost use Rattle.usb_store.specs.Layout.{store_length};
 ghost use Rattle.sequences.specs.Stores.{resized, put, edited, store_before, old_store, store_after};
@@ -25,6 +25,7 @@ fn put(store: &mut [u8], edit: &[u8; EDIT_LEN])
     }
 }
 
+// The first n edits of a buffer: the head counts them, and the buffer is longer.
 fn edit(store: &mut [u8], edits: &[u8], n: usize)
     requires { n * 5 ≤ length edits.now }
     ensures { store.new ≡ edited n edits.now store.old }

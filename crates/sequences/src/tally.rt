@@ -37,7 +37,7 @@ impl fmt::Display for Count {
     }
 }
 
-// The numbers of the first records that differ: a list of fixed room, for a push to a `Vec` can fail.
+// The numbers of the first records that differ: a list of fixed room, for a push to a `Vec` can fail, and `add` cannot.
 #[derive(Drop)]
 pub struct Differing {
     numbers: [u32; MOST],

@@ -33,7 +33,8 @@ fn start_change(bus: &mut UsbBus, at: HubPort) -> Result<(), Failure>
 #[tactic(auto, unfolding(crate::specs::Parts::no_new_device, usb_model::specs::Features::bit))]
 fn no_new_device(bus: &UsbBus, at: HubPort) -> bool
     requires { length bus.now.store.now ≡ store_length }
-    ensures { result ≡ no_new_device (number_at bus.now.store.now at.hub (port_status_field at.port) 4) (byte_at bus.now.store.now at.hub (child_field at.port)) }
+    ensures { result ≡ no_new_device (number_at bus.now.store.now at.hub (port_status_field at.port) 4)
+        (byte_at bus.now.store.now at.hub (child_field at.port)) }
 {
     let status = port_status(bus.stored(), at);
     let connected = has(status, PORT_CONNECTION);

@@ -1,4 +1,5 @@
-// device/hub.rs: the port at which a child stands, and HubChildReset.
+// device/hub.rs: the port at which a child stands, and HubChildReset. Both functions take the hub and the child as the call names them,
+// two places of which a HubPort is only made where the child stands at the hub.
 #![tactic(auto)]
 
 ghost use Rattle.std.specs.Prelude.{◌≡◌, ◌≤◌, ◌<◌, length};

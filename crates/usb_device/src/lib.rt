@@ -1,4 +1,4 @@
-// device.rs and hcd/hub.rs: the records of the store.
+// device.rs and hcd/hub.rs: the records of the store. The store is a slice of C's caller, so each function asks for its length.
 #![tactic(auto)]
 
 pub mod device;

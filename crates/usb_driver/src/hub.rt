@@ -6,7 +6,7 @@ ghost use Rattle.usb_model.specs.Programs.{ignore, when};
 ghost use Rattle.usb_model.specs.Hub as Model;
 ghost use Rattle.usb_model.specs.Attach.{attach_below};
 ghost use Rattle.usb_transfer.specs.Runs.{Does};
-ghost use Rattle.usb_driver.specs.Bus.{OnBus};
+ghost use Rattle.usb_driver.specs.Bus.{OnBus, Attaches};
 
 use crate::usbd::usb_attach_device;
 use usb_check::{end_check, start_check};
@@ -21,10 +21,10 @@ use usb_types::types::Failure;
 #[cycle(attach)]
 pub fn hub_attach(bus: &mut UsbBus, hub: usize) -> Result<(), Failure>
     requires { OnBus hub bus.old }
-    ensures { (n : ℕ) → free_places bus.old.store.now ≤ n → Does (Model.hub_attach (attach_below n) hub) bus.old bus.new result }
+    ensures { Attaches (λ attach. Model.hub_attach attach hub) bus.old bus.new result }
 {
     ready_hub(bus, hub)?;
-    let count = bus.byte_at(hub, MAX_CHILDREN) as usize;
+    let count = usize::from(bus.byte_at(hub, MAX_CHILDREN));
     for port in 0..count {
         ignore(hub_check_connection(bus, HubPort { hub, port }))?;
     }
@@ -34,8 +34,7 @@ pub fn hub_attach(bus: &mut UsbBus, hub: usize) -> Result<(), Failure>
 #[cycle(attach)]
 pub fn hub_check_connection(bus: &mut UsbBus, at: HubPort) -> Result<(), Failure>
     requires { OnBus at.hub bus.old }
-    ensures { (n : ℕ) → free_places bus.old.store.now ≤ n
-        → Does (Model.hub_check_connection (attach_below n) at.hub at.port) bus.old bus.new result }
+    ensures { Attaches (λ attach. Model.hub_check_connection attach at.hub at.port) bus.old bus.new result }
 {
     let due = start_check(bus, at)?;
     change_if(bus, at, due.dropped)?;
@@ -43,12 +42,11 @@ pub fn hub_check_connection(bus: &mut UsbBus, at: HubPort) -> Result<(), Failure
     end_check(bus, at, due.status)
 }
 
-// A connection change that is due; of its result only a stop counts.
+// A connection change that is due; of its result only a stop counts. A test in a function of its own, as the definition's `when`.
 #[cycle(attach)]
 fn change_if(bus: &mut UsbBus, at: HubPort, due: bool) -> Result<(), Failure>
     requires { OnBus at.hub bus.old }
-    ensures { (n : ℕ) → free_places bus.old.store.now ≤ n
-        → Does (when due (ignore (Model.hub_port_connection_changed (attach_below n) at.hub at.port))) bus.old bus.new result }
+    ensures { Attaches (λ attach. when due (ignore (Model.hub_port_connection_changed attach at.hub at.port))) bus.old bus.new result }
 {
     if due {
         return ignore(hub_port_connection_changed(bus, at));
@@ -59,8 +57,7 @@ fn change_if(bus: &mut UsbBus, at: HubPort, due: bool) -> Result<(), Failure>
 #[cycle(attach)]
 pub fn hub_port_connection_changed(bus: &mut UsbBus, at: HubPort) -> Result<(), Failure>
     requires { OnBus at.hub bus.old }
-    ensures { (n : ℕ) → free_places bus.old.store.now ≤ n
-        → Does (Model.hub_port_connection_changed (attach_below n) at.hub at.port) bus.old bus.new result }
+    ensures { Attaches (λ attach. Model.hub_port_connection_changed attach at.hub at.port) bus.old bus.new result }
 {
     let place = new_child(bus, at)?;
     usb_attach_device(bus, place)

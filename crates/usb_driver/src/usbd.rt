@@ -1,4 +1,5 @@
-// usbd.rs: the attach of a device, and of the root hub.
+// usbd.rs: the attach of a device, and of the root hub. `OnBus` stands in the contracts of this crate and usb_scan, and is no type's
+// invariant: functions of the crates below take any bus, and that it still holds after them is proved from what they ran (proofs/Reaches.antt).
 ghost use Rattle.std.specs.Prelude.{ℕ, ◌<◌};
 ghost use Rattle.usb_device.specs.Device.{free_places};
 ghost use Rattle.usb_model.specs.Attach.{attach_below, usb_attach_root_hub};

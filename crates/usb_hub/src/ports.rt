@@ -66,7 +66,7 @@ pub fn child_of(hub: HubDevice, port: usize) -> Option<usize>
     let children = hub.children;
     match children[port] {
         0 => None,
-        child => Some(child as usize - 1),
+        child => Some(usize::from(child) - 1),
     }
 }
 

@@ -30,10 +30,12 @@ pub const C_PORT_ENABLE: u16 = 17;
 
 pub const C_PORT_RESET: u16 = 20;
 
-// The byte of a hub whose descriptor was not read, and was. Numbers: each is only written to the store, or compared with its byte.
-pub const WITHOUT_DESCRIPTOR: u8 = 1;
-
-pub const WITH_DESCRIPTOR: u8 = 2;
+// The byte of a place that is a hub, by whether its descriptor was read. Only named cases are written and compared, by `as u8`.
+#[derive(Clone, Copy)]
+pub enum HubData {
+    WithoutDescriptor = 1,
+    WithDescriptor = 2,
+}
 
 // A call whose result the Rust does not look at: only a stop goes on upward.
 pub fn ignore(answer: Result<(), Failure>) -> Result<(), Failure>
@@ -120,10 +122,10 @@ pub fn hub_power_on(bus: &mut UsbBus, hub: usize) -> Result<(), Failure>
     requires { Ready bus.old × (hub < place_count) }
     ensures { Does (Model.hub_power_on hub) bus.old bus.new result }
 {
-    if bus.byte_at(hub, usb_store::HUB) != WITH_DESCRIPTOR {
+    if bus.byte_at(hub, usb_store::HUB) != HubData::WithDescriptor as u8 {
         return Ok(());
     }
-    let count = bus.byte_at(hub, MAX_CHILDREN) as usize;
+    let count = usize::from(bus.byte_at(hub, MAX_CHILDREN));
     let delay = power_delay(bus.byte_at(hub, POWER_GOOD_DELAY));
     power_ports(bus, hub, count)?;
     bus.micro_delay(delay)

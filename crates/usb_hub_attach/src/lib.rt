@@ -6,7 +6,7 @@ ghost use Rattle.usb_store.specs.Layout.{place_count, store_length};
 ghost use Rattle.usb_transfer.specs.Runs.{Ready, Does};
 ghost use Rattle.usb_hub_attach.specs.Parts.{hub_endpoint, hub_described, hub_powered, hub_ready, ports_of};
 
-use usb_hub::requests::{WITHOUT_DESCRIPTOR, hub_get_status, hub_power_on};
+use usb_hub::requests::{HubData, hub_get_status, hub_power_on};
 use usb_hub_descriptor::hub_read_descriptor;
 use usb_store::{ENDPOINT_ADDRESS, ENDPOINT_ATTRIBUTES, ENDPOINT_COUNT, MAX_CHILDREN, PORT_COUNT};
 use usb_transfer::bus::UsbBus;
@@ -36,7 +36,7 @@ fn describe_hub(bus: &mut UsbBus, hub: usize) -> Result<(), Failure>
     requires { Ready bus.old × (hub < place_count) }
     ensures { Does (hub_described hub) bus.old bus.new result }
 {
-    bus.set_byte(hub, usb_store::HUB, WITHOUT_DESCRIPTOR);
+    bus.set_byte(hub, usb_store::HUB, HubData::WithoutDescriptor as u8);
     bus.set_byte(hub, MAX_CHILDREN, 1);
     hub_read_descriptor(bus, hub)?;
     let count = bus.byte_at(hub, PORT_COUNT);

@@ -62,7 +62,7 @@ fn hcd_submit_control_message<'a>(
     let rest = &outcomes[bus.at.taken..];
     let header = read_outcome(rest)?;
     let size = header.size;
-    let n = size.min(asked as usize);
+    let n = size.min(usize::from(asked));
     let end = HEADER_LEN + n;
     let bytes = &rest[HEADER_LEN..end];
     bus.at.taken += HEADER_LEN + size;
@@ -113,7 +113,7 @@ pub fn read<'a>(
     ensures enough { IfOk result (λ bytes. minimum ≤ length bytes.now) }
 {
     let bytes = control(bus, place, request, buffer)?;
-    if bytes.len() < minimum as usize {
+    if bytes.len() < usize::from(minimum) {
         return Err(Failure::Error(ErrorCode::Device));
     }
     Ok(bytes)

@@ -9,7 +9,8 @@ pub struct Progress {
     pub requests: usize,
 }
 
-// Where the bytes that a transfer delivers go: at most room of them, to a field of the device.
+// Where the bytes that a transfer delivers go: at most room of them, to a field of the device. That they fit there is no ghost field:
+// the definitions make a Buffer of any two numbers.
 #[derive(Clone, Copy)]
 pub struct Buffer {
     pub field: usize,
@@ -17,6 +18,6 @@ pub struct Buffer {
 }
 
 impl Buffer {
-    // The bytes are handed back and not stored.
+    // The bytes are handed back and not stored. No Option: room 0 stores nothing, as in the Rust.
     pub const NOWHERE: Buffer = Buffer { field: 0, room: 0 };
 }

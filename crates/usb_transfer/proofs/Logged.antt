@@ -12,7 +12,7 @@ use Rattle.usb_model.specs.Programs.{Ran, done, on, ran, ◌>>=◌, ◌>>◌, st
 use Rattle.usb_model.specs.World.{World, log_action, log_request, appended, counted}
 use Rattle.usb_model.proofs.Ways.{Logs as Was-logged, full, logged as was-logged, log_ends}
 use Rattle.usb_transfer.specs.declared.bus.UsbBus.{UsbBus}
-use Rattle.usb_transfer.specs.Runs.{world, Fit, Room, Logs, Ready, Lends}
+use Rattle.usb_transfer.specs.Runs.{world, Fit, Room, Logs, Lends}
 use Rattle.usb_transfer.proofs.Steps.{lends_still, lends_on, on_failed, exit}
 
 module _ {b : UsbBus} (action : List ℕ) (r : Room b) where

@@ -7,7 +7,8 @@ use usb_types::types::{Halt, outcome_listed};
 
 pub const HEADER_LEN: usize = 4;
 
-// The submit code, the error, and how many data bytes follow. Numbers: any byte is read into the codes, and what they say is decided after.
+// The submit code, the error, and how many data bytes follow. The codes are numbers: they are places in the tables of `error_word` and
+// `result_of`, and nothing else looks at them.
 #[derive(Clone, Copy)]
 pub struct Header {
     pub submit: u8,

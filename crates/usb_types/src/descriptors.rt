@@ -17,24 +17,24 @@ pub enum DescriptorKind {
     Other,
 }
 
-#[tactic(auto, unfolding(crate::specs::Descriptors::kind_of))]
-pub fn descriptor_kind(number: u8) -> DescriptorKind
-    ensures { result ≡ kind_of number }
-{
-    match number {
-        4 => DescriptorKind::Interface,
-        5 => DescriptorKind::Endpoint,
-        0..=3 | 6..=255 => DescriptorKind::Other,
+// By bDescriptorType, USB 2.0 table 9-5.
+impl From<u8> for DescriptorKind {
+    ghost from_gives = { λ number r. r ≡ kind_of number };
+
+    #[tactic(auto, unfolding(crate::specs::Descriptors::kind_of))]
+    fn from(number: u8) -> DescriptorKind {
+        match number {
+            4 => DescriptorKind::Interface,
+            5 => DescriptorKind::Endpoint,
+            0..=3 | 6..=255 => DescriptorKind::Other,
+        }
     }
 }
 
-// bInterfaceClass is that of a hub, USB 2.0 11.23.1.
+// bInterfaceClass is that of a hub, USB 2.0 11.23.1. A match, as document 01 has codes decided.
 #[tactic(auto, unfolding(crate::specs::Descriptors::is_hub_class))]
 pub fn is_hub_class(class: u8) -> bool
     ensures { result ≡ is_hub_class class }
 {
-    match class {
-        9 => true,
-        0..=8 | 10..=255 => false,
-    }
+    matches!(class, 9)
 }

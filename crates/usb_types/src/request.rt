@@ -22,6 +22,7 @@ pub const HUB: u8 = 0x20;
 
 pub const PORT: u8 = 0x23;
 
+// The fields of a packet, each number of which is a packet's.
 #[derive(Clone, Copy)]
 pub struct UsbDeviceRequest {
     pub request_type: u8,
@@ -31,8 +32,8 @@ pub struct UsbDeviceRequest {
     pub length: u16,
 }
 
-// Direction of the data stage of a standard request, by its code: 1 In, 0 Out. The hub class requests that the driver sends
-// (GetStatus, ClearFeature, SetFeature, GetDescriptor) have the same codes and directions.
+// Direction of the data stage of a standard request, by its code: 1 In, 0 Out, the bit of bmRequestType that is made of it. The hub class
+// requests that the driver sends (GetStatus, ClearFeature, SetFeature, GetDescriptor) have the same codes and directions.
 #[tactic(auto, unfolding(crate::specs::Requests::direction_of))]
 pub fn direction_of(request: u8) -> u8
     ensures { (result ≡ direction_of request) × (result < 2) }
@@ -43,7 +44,7 @@ pub fn direction_of(request: u8) -> u8
     }
 }
 
-// Bit 7 of bmRequestType: 1 In, 0 Out. A number, as `direction_of` gives: an action and the packet show it as one.
+// Bit 7 of bmRequestType: 1 In, 0 Out. A number, as `direction_of` gives: an action shows it as one.
 #[tactic(auto, unfolding(crate::specs::Requests::direction_bit))]
 pub fn direction_bit(kind: u8) -> u8
     ensures { result ≡ direction_bit kind }

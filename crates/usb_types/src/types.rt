@@ -1,5 +1,5 @@
 // types.rs: what a call answers, and what an outcome's two codes and a packet size stand for.
-ghost use Rattle.std.specs.Prelude.{◌≡◌, ◌<◌};
+ghost use Rattle.std.specs.Prelude.{◌≡◌, ◌<◌, Err};
 ghost use Rattle.usb_types.specs.declared.types.Failure.TheVariants.{Error, Stop};
 ghost use Rattle.usb_types.specs.Answers.{error_number, halt_number, answer_number, refusal_number};
 ghost use Rattle.usb_types.specs.Outcomes.{listed, error_word, result_of};
@@ -106,14 +106,24 @@ impl From<Refusal> for i32 {
     }
 }
 
+impl From<Failure> for i32 {
+    ghost from_gives = { λ f r. r ≡ answer_number (Err f) };
+
+    fn from(failure: Failure) -> i32 {
+        match failure {
+            Failure::Error(error) => i32::from(error),
+            Failure::Stop(halt) => i32::from(halt),
+        }
+    }
+}
+
 // The number of what a function of the driver answered. A function: no `From` can be written between two types of std.
 pub fn answer_number(answer: Result<(), Failure>) -> i32
     ensures { result ≡ answer_number answer }
 {
     match answer {
         Ok(()) => 0,
-        Err(Failure::Error(error)) => i32::from(error),
-        Err(Failure::Stop(halt)) => i32::from(halt),
+        Err(failure) => i32::from(failure),
     }
 }
 
@@ -143,13 +153,7 @@ const ERROR_WORDS: [u32; 32] = [
 pub fn outcome_listed(submit: u8, error: u8) -> bool
     ensures { result ≡ listed submit error }
 {
-    match submit {
-        0..=9 => match error {
-            0..=9 | 31 => true,
-            _ => false,
-        },
-        _ => false,
-    }
+    matches!(submit, 0..=9) && matches!(error, 0..=9 | 31)
 }
 
 // UsbTransferError of an outcome's error.
@@ -161,7 +165,7 @@ pub fn error_word(error: u8) -> u32
     if error == 0 {
         return 0;
     }
-    let bit = error as usize;
+    let bit = usize::from(error);
     ERROR_WORDS[bit]
 }
 
@@ -178,12 +182,12 @@ pub fn result_of(submit: u8, error: u8) -> Result<(), Failure>
             _ => Err(Failure::Error(ErrorCode::Device)),
         }
     } else {
-        let code = submit as usize;
+        let code = usize::from(submit);
         SUBMIT_RESULTS[code]
     }
 }
 
-// UsbPacketSize by its number: 0 to 3 for 8, 16, 32 and 64 bytes. A number: `UsbPipeAddress` takes each u8.
+// UsbPacketSize by its number: 0 to 3 for 8, 16, 32 and 64 bytes. A number: it is only written into an action.
 #[tactic(auto, unfolding(crate::specs::Actions::packet_size))]
 pub fn size_from_number(size: u8) -> u8
     ensures { result ≡ packet_size size }

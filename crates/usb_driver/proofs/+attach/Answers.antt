@@ -31,7 +31,7 @@ hub::hub_attach-loop-port-init t c =
 pub hub::hub_attach-invariant_of-hub_check_connection : goal.hub::hub_attach-invariant_of-hub_check_connection
 hub::hub_attach-invariant_of-hub_check_connection t c =
     let ready = ready_after c.requires c.in_ok-ready_hub.ensures in
-    let low : c.loop-port.port < 10 = omega (arith, c.byte_at-count.ensures, ready.bus.good.most c.args.hub) in
+    let low : c.loop-port.port < 10 = omega (arith, c.from-count.ensures, c.byte_at.ensures, ready.bus.good.most c.args.hub) in
     record { of_hub = c.requires.inside; in_range = low }
 
 pub hub::hub_attach-hub_check_connection-requires : goal.hub::hub_attach-hub_check_connection-requires
@@ -45,7 +45,7 @@ hub::hub_attach-returns-in_err-ignore t c n h =
     let ready = ready_after c.requires c.in_ok-ready_hub.ensures in
     let inv = c.loop-port.invariant in
     let checked = c.hub_check_connection.ensures n (omega (arith, ready.free, inv.after.free)) in
-    does_as (hub_attaches _ _) (next _ c.in_ok-ready_hub.ensures (got _ _ _ c.byte_at-count.ensures
+    does_as (hub_attaches _ _) (next _ c.in_ok-ready_hub.ensures (got _ _ _ (c.from-count.ensures ∙ c.byte_at.ensures)
     (ends_with (inv.goes n (omega (arith, ready.free)))
     (each_failed _ _ _ c.loop-port-test.true (ignores c.in_err-ignore.ensures checked) c.from_residual-in_err-ignore.ensures))))
 
@@ -54,7 +54,7 @@ hub::hub_attach-loop-port-preserved t c =
     let check = c.hub_check_connection in
     let inv = c.loop-port.invariant in
     let ready = ready_after c.requires c.in_ok-ready_hub.ensures in
-    let low : c.loop-port.port < 10 = omega (arith, c.byte_at-count.ensures, ready.bus.good.most c.args.hub) in
+    let low : c.loop-port.port < 10 = omega (arith, c.from-count.ensures, c.byte_at.ensures, ready.bus.good.most c.args.hub) in
     let k = checked_after _ inv.after.bus low (check.ensures _ (le_refl _)) in
     record {
       after = record { bus = k.bus; free = omega (arith, k.free, inv.after.free) };
@@ -66,7 +66,7 @@ pub hub::hub_attach-returns : goal.hub::hub_attach-returns
 hub::hub_attach-returns t c n h =
     let ready = ready_after c.requires c.in_ok-ready_hub.ensures in
     let inv = c.loop-port.invariant in
-    does_as (hub_attaches _ _) (next _ c.in_ok-ready_hub.ensures (got _ _ _ c.byte_at-count.ensures
+    does_as (hub_attaches _ _) (next _ c.in_ok-ready_hub.ensures (got _ _ _ (c.from-count.ensures ∙ c.byte_at.ensures)
     (ends_with (inv.goes n (omega (arith, ready.free))) (each_last _ _ _ c.loop-port-test.false inv.after.bus.fit))))
 
 -- ---- hub_check_connection

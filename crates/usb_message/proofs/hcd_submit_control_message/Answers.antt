@@ -10,8 +10,8 @@ returns-in_err-header c = bound_ends _ (untaken _ c.requires.0 c.in_err-header.e
 
 pub returns-in_err-result_of : goal.returns-in_err-result_of
 returns-in_err-result_of c =
-    refused _ _ c.requires.0 c.in_ok-header.ensures c.min-n.ensures _ _ c.keep.ensures c.in_err-result_of.ensures
+    refused _ _ c.requires.0 c.in_ok-header.ensures (rw c.from.ensures at c.min-n.ensures) _ _ c.keep.ensures c.in_err-result_of.ensures
     (exit_bytes _ c.from_residual-in_err-result_of.ensures)
 
 pub returns : goal.returns
-returns c = received _ _ c.requires.0 c.in_ok-header.ensures c.min-n.ensures _ _ c.keep.ensures c.in_ok-result_of.ensures
+returns c = received _ _ c.requires.0 c.in_ok-header.ensures (rw c.from.ensures at c.min-n.ensures) _ _ c.keep.ensures c.in_ok-result_of.ensures

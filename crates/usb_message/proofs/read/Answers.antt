@@ -8,12 +8,12 @@ pub returns-in_err-bytes-clause-gives : goal.returns-in_err-bytes-clause-gives
 unfolding read
 returns-in_err-bytes-clause-gives c = bound_ends _ c.in_err-bytes.ensures (exit_bytes _ c.from_residual.ensures)
 
-pub returns-then-bytes-minimum-clause-gives : goal.returns-then-bytes-minimum-clause-gives
+pub returns-then-bytes-from-clause-gives : goal.returns-then-bytes-from-clause-gives
 unfolding read
-returns-then-bytes-minimum-clause-gives c =
-    bound _ c.in_ok-bytes.ensures (thrown c.in_ok-bytes.ensures.fit _ _ (lt-ltb _ _ c.if-bytes-minimum.true))
+returns-then-bytes-from-clause-gives c =
+    bound _ c.in_ok-bytes.ensures (thrown c.in_ok-bytes.ensures.fit _ _ (lt-ltb _ _ (rw c.from.ensures at c.if-bytes-from.true)))
 
 pub returns-clause-gives : goal.returns-clause-gives
 unfolding read
 returns-clause-gives c =
-    bound _ c.in_ok-bytes.ensures (unless _ _ (le-ltb _ _ c.if-bytes-minimum.false) (returned c.in_ok-bytes.ensures.fit _))
+    bound _ c.in_ok-bytes.ensures (unless _ _ (le-ltb _ _ (rw c.from.ensures at c.if-bytes-from.false)) (returned c.in_ok-bytes.ensures.fit _))

@@ -10,14 +10,14 @@ use Rattle.usb_scan.proofs.+scan.Goals as goal
 pub hub_check_for_change-returns-in_err-scan_port : goal.hub_check_for_change-returns-in_err-scan_port
 hub_check_for_change-returns-in_err-scan_port t c n m h l =
     let inv = c.loop-port.invariant in
-    at_places _ _ m c.requires.inside l (λ k g. got _ _ _ c.byte_at-ports.ensures
+    at_places _ _ m c.requires.inside l (λ k g. got _ _ _ (c.from-ports.ensures ∙ c.byte_at.ensures)
     (ends_with (inv.goes n k h g) (each_failed _ _ _ c.loop-port-test.true
     (c.in_err-scan_port.ensures n k (omega (arith, inv.after.free)) g) c.from_residual.ensures)))
 
 pub hub_check_for_change-loop-port-preserved : goal.hub_check_for_change-loop-port-preserved
 hub_check_for_change-loop-port-preserved t c =
     let inv = c.loop-port.invariant in
-    let low : c.loop-port.port < 10 = omega (arith, c.byte_at-ports.ensures, c.requires.good.most c.args.hub) in
+    let low : c.loop-port.port < 10 = omega (arith, c.from-ports.ensures, c.byte_at.ensures, c.requires.good.most c.args.hub) in
     let k = scanned_after _ 32 _ inv.after.bus low (c.scan_port.ensures _ 32 (le_refl _) (omega arith)) in
     record {
       after = record { bus = k.bus; free = omega (arith, k.free, inv.after.free) };
@@ -28,7 +28,7 @@ hub_check_for_change-loop-port-preserved t c =
 pub hub_check_for_change-returns : goal.hub_check_for_change-returns
 hub_check_for_change-returns t c n m h l =
     let inv = c.loop-port.invariant in
-    at_places _ _ m c.requires.inside l (λ k g. got _ _ _ c.byte_at-ports.ensures
+    at_places _ _ m c.requires.inside l (λ k g. got _ _ _ (c.from-ports.ensures ∙ c.byte_at.ensures)
     (ends_with (inv.goes n k h g) (each_last _ _ _ c.loop-port-test.false inv.after.bus.fit)))
 
 -- ---- scan_port

@@ -13,4 +13,4 @@ words =
 
 pub returns : goal.returns
 unfolding words error_word
-returns c = eqb→eq _ _ (rule (λ bit word. eqb word (error_word bit)) words tt _ c.requires 0)
+returns c = rw c.from-bit.ensures (eqb→eq _ _ (rule (λ bit word. eqb word (error_word bit)) words tt _ c.requires 0))

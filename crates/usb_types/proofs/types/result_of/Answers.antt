@@ -5,4 +5,4 @@ use Rattle.usb_types.proofs.types.result_of.Goals as goal
 
 pub returns-else-submit-eq0 : goal.returns-else-submit-eq0
 unfolding result_of submit_results
-returns-else-submit-eq0 c = simp (ne_eqb _ _ c.if-submit-eq0.false)
+returns-else-submit-eq0 c = simp (c.from-code.ensures, ne_eqb _ _ c.if-submit-eq0.false)
