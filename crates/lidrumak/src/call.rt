@@ -29,7 +29,7 @@ pub enum Call {
     ConnectionChange(u32, u32),
 }
 
-// A match, as in `run`: the verdicts take unlike numbers.
+// A match, as in `run`: the verdict functions take different parameters.
 fn judge(call: Call, old: &[u8], new_len: usize) -> Result<(), Refusal>
     ensures { Judges (verdict call) old.now new_len (told result) }
 {
@@ -45,7 +45,7 @@ fn judge(call: Call, old: &[u8], new_len: usize) -> Result<(), Refusal>
     }
 }
 
-// By `as`: std has no `From` of u32 for usize.
+// By `as`, as in `run`: std has no `From` of u32 for usize or u8.
 fn hub_port(hub: u32, port: u32) -> HubPort
     requires { (hub < place_count) × (port < ports_per_hub) }
     ensures { (result.hub ≡ hub) × (result.port ≡ port) }
@@ -76,6 +76,7 @@ fn run(bus: &mut UsbBus, call: Call) -> Result<(), Failure>
     }
 }
 
+// The four slices are the parameters of C's calls.
 pub fn enter(call: Call, old: &[u8], new: &mut [u8], outcomes: &[u8], log: &mut [u8]) -> Reply
     ensures { left result new.new log.new ≡ entry call (lent old.now new.old outcomes.now log.old) }
 {

@@ -1,4 +1,4 @@
-// The calls: numbers and byte slices, each by the name under which C calls it. What they share is `enter`.
+// The calls: numbers and byte slices, each by the name under which C calls it. What the seven with stores share is `enter`.
 #![tactic(auto)]
 
 mod call;
@@ -125,6 +125,7 @@ pub fn lidrumak_configuration_walk(descriptors: &[u8], record: &mut [u8]) -> i32
     if descriptors.len() > MAX_DESCRIPTORS || record.len() != RECORD_LEN {
         return i32::from(Refusal::BadArgument);
     }
+    // a match: the error is an ErrorCode, where `answer_number` takes a Failure
     match walk(descriptors, record) {
         Ok(()) => 0,
         Err(error) => i32::from(error),

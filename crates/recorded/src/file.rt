@@ -26,7 +26,7 @@ fn write_garbled<W: Write>(out: &mut W) -> io::Result<()>
 }
 
 // Reads n bytes into the buffer; did the file hold as many? The buffers are lent, and their lengths stand in the head: a record allocates
-// nothing. Reader and out are two borrows of the caller's, here and in replays and vectors: a struct of both would be made at each call.
+// nothing.
 fn is_read<R: Read>(reader: &mut R, buffer: &mut [u8], n: usize) -> io::Result<bool>
     requires { n ≤ length buffer.old }
     ensures asks { IfOk result (Asks n buffer.old buffer.new) }
@@ -38,7 +38,8 @@ fn is_read<R: Read>(reader: &mut R, buffer: &mut [u8], n: usize) -> io::Result<b
 }
 
 // Reads a call of calls.bin: at most 255 edits of 5 bytes, and 65,536 bytes of outcomes. A garbled one is written to out
-// as such. Where a read or a write fails, part of a call was read.
+// as such. Where a read or a write fails, part of a call was read. Reader and out are two borrows of the caller's, here and in replays and
+// vectors: a struct of both would be made at each call.
 #[tactic(auto, unfolding(crate::specs::Heads::fits))]
 pub fn read_call<R: Read, W: Write>(
     reader: &mut R,
@@ -72,7 +73,7 @@ pub fn read_call<R: Read, W: Write>(
 }
 
 // Reads a walk of walks.bin: at most 65,536 bytes of descriptors. A garbled one is written to out as such. Where a read
-// or a write fails, part of a walk was read. Apart from read_call, since the records have other heads and one buffer less.
+// or a write fails, part of a walk was read. Apart from read_call, since a walk has another head and one buffer less.
 #[tactic(auto, unfolding(crate::specs::Heads::walk_fits))]
 pub fn read_walk<R: Read, W: Write>(
     reader: &mut R,

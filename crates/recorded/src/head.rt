@@ -80,7 +80,7 @@ fn u64_at(bytes: &[u8], at: usize) -> u64
     u64::from_le_bytes(bytes_at(bytes, at))
 }
 
-// asked_in, recorded_in and walk_in take any slice of the length; From<&[u8; 48]> and From<&[u8; 16]> would take less.
+// asked_in, recorded_in and walk_in take any slice of the length; From<&[u8; 48]> and From<&[u8; 16]> would take arrays alone.
 #[tactic(auto, unfolding(crate::specs::Heads::asked_in))]
 pub fn asked_in(bytes: &[u8]) -> Asked
     requires { length bytes.now ≡ 48 }

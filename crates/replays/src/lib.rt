@@ -1,4 +1,5 @@
-// A recorded call or walk, run on slices.
+// A recorded call or walk, run on the slices that a call of the library takes. Buffers are arrays on the stack, cut to the lengths in a
+// record's head: a record allocates nothing.
 #![tactic(auto)]
 
 pub mod file;
@@ -24,7 +25,7 @@ use usb_entry::reply::Reply;
 // What new store, log and record hold before each call.
 const FILL: u8 = 0xEE;
 
-// A match over the entry points of the library, which are functions of unlike parameters.
+// A match over the entry points of the library, which are functions with different parameters.
 #[tactic(auto, unfolding(crate::specs::Replays::entry_point))]
 fn run(asked: Asked, old: &[u8], new: &mut [u8], outcomes: &[u8], log: &mut [u8]) -> Reply
     ensures { left result new.new log.new

@@ -1,4 +1,5 @@
-// The stores of a sequence of calls. A sequence's store is a slice of a store's length, here and in replays: an array would take fewer.
+// The stores of a sequence of calls. The functions take a sequence's store as a slice, and ask for its length, here and in replays: with an
+// array in their place a caller's slice would not do.
 ghost use Rattle.std.specs.Prelude.{◌≡◌, ◌*◌, ◌≤◌, length};
 ghost use Rattle.usb_store.specs.Layout.{store_length};
 ghost use Rattle.sequences.specs.Stores.{resized, put, edited, store_before, old_store, store_after};

@@ -2,7 +2,7 @@
 #![tactic(auto)]
 
 ghost use Rattle.std.specs.Prelude.{◌≡◌, ◌<◌, length, IfOk, Ok};
-ghost use Rattle.usb_store.specs.Layout.{place_count, store_length, port_status_field, child_field, ports_per_hub};
+ghost use Rattle.usb_store.specs.Layout.{place_count, store_length, port_status_field, child_field};
 ghost use Rattle.usb_store.specs.Access.{byte_at, number_at};
 ghost use Rattle.usb_transfer.specs.Runs.{Ready, Does};
 ghost use Rattle.usb_child.specs.Parts.{start_change, no_new_device, reset_changed, set_port, place_child, new_child};

@@ -1,5 +1,5 @@
-// device/hub.rs: the port at which a child stands, and HubChildReset. Both functions take the hub and the child as the call names them,
-// two places of which a HubPort is only made where the child stands at the hub.
+// device/hub.rs: the port at which a child stands, and HubChildReset. Both functions take the hub and the child, the two places that the
+// call names: there is a port, and so a HubPort, only where the child stands at the hub.
 #![tactic(auto)]
 
 ghost use Rattle.std.specs.Prelude.{◌≡◌, ◌≤◌, ◌<◌, length};

@@ -10,7 +10,8 @@ use usb_store::{
     INTERFACE_TYPE, MAX_PACKET_SIZE0, NUMBER, PLACE_LEN, PLACES, SPEED, USED, byte_at,
 };
 
-// As a place's speed byte holds it. A named case is written by `as u8`, whose number stands in the code; any other by `From`.
+// As a place's speed byte holds it. A case named in the code is written `as u8`, its number standing below; a speed that is worked out
+// goes through `From`, whose contract gives the number.
 #[derive(Clone, Copy, PartialEq, Eq, Debug)]
 pub enum UsbSpeed {
     High = 0,
@@ -45,8 +46,8 @@ pub fn first_unused(store: &[u8]) -> Option<usize>
     (0..PLACES).find(|&place| byte_at(store, place, USED) == 0)
 }
 
-// Sets n bytes to 1, one every step bytes from first on: the types of n descriptors. By an index, as the
-// definition numbers them: for `step_by` an end would have to be worked out.
+// Sets n bytes to 1, one every step bytes from first on: the types of n descriptors. By an index, as the definition
+// numbers them: for `step_by` an end would have to be worked out.
 #[tactic(auto, using(crate::proofs::Turns::mark_turn, crate::proofs::Turns::mark_end))]
 fn mark(bytes: &mut [u8], first: usize, step: usize, n: usize)
     requires { (first + n * step < length bytes.old) × (n ≤ 128) × (step < 16) }

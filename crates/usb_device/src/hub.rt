@@ -1,7 +1,7 @@
 // hcd/hub.rs: a hub's ten ports, by value.
 ghost use Rattle.std.specs.Prelude.{◌≡◌, ◌<◌, length};
 ghost use Rattle.usb_store.specs.Layout.{place_count, store_length};
-ghost use Rattle.usb_device.specs.Ports.{hub_at, with_statuses, with_hub};
+ghost use Rattle.usb_device.specs.Ports.{hub_at, with_hub};
 
 use std::array;
 use usb_store::{

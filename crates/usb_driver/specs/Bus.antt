@@ -1,4 +1,4 @@
--- What the functions that attach devices rely on.
+-- What the functions that attach devices rely on and promise.
 use Rattle.std.specs.Prelude.{ℕ, ◌≤◌, ◌<◌}
 use Rattle.usb_types.specs.Answers.{Answer}
 use Rattle.usb_store.specs.Layout.{place_count}

@@ -1,11 +1,6 @@
 // device/hub.rs: hub attach, port check and connection change, which call each other and attach.
-ghost use Rattle.std.specs.Prelude.{ℕ, ◌≤◌, ◌<◌};
-ghost use Rattle.usb_store.specs.Layout.{ports_per_hub};
-ghost use Rattle.usb_device.specs.Device.{free_places};
 ghost use Rattle.usb_model.specs.Programs.{ignore, when};
 ghost use Rattle.usb_model.specs.Hub as Model;
-ghost use Rattle.usb_model.specs.Attach.{attach_below};
-ghost use Rattle.usb_transfer.specs.Runs.{Does};
 ghost use Rattle.usb_driver.specs.Bus.{OnBus, Attaches};
 
 use crate::usbd::usb_attach_device;
@@ -42,7 +37,7 @@ pub fn hub_check_connection(bus: &mut UsbBus, at: HubPort) -> Result<(), Failure
     end_check(bus, at, due.status)
 }
 
-// A connection change that is due; of its result only a stop counts. A test in a function of its own, as the definition's `when`.
+// A connection change that is due; of its result only a stop counts. The test stands here, as in the definition's `when`, for both calls.
 #[cycle(attach)]
 fn change_if(bus: &mut UsbBus, at: HubPort, due: bool) -> Result<(), Failure>
     requires { OnBus at.hub bus.old }

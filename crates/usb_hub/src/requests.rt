@@ -30,7 +30,7 @@ pub const C_PORT_ENABLE: u16 = 17;
 
 pub const C_PORT_RESET: u16 = 20;
 
-// The byte of a place that is a hub, by whether its descriptor was read. Only named cases are written and compared, by `as u8`.
+// The byte of a place that is a hub, by whether its descriptor was read; 0 is no hub. Only named cases are written and compared, by `as u8`.
 #[derive(Clone, Copy)]
 pub enum HubData {
     WithoutDescriptor = 1,
@@ -69,6 +69,7 @@ fn feature_request(feature: u16, port: usize, set: bool) -> UsbDeviceRequest
     device_request(PORT, request, feature, index, 0)
 }
 
+// Takes hub and port apart and any port below 256, no HubPort: `hub_power_on` powers as many ports as the MaxChildren byte says.
 pub fn hub_change_port_feature(
     bus: &mut UsbBus,
     hub: usize,

@@ -18,6 +18,6 @@ pub struct Buffer {
 }
 
 impl Buffer {
-    // The bytes are handed back and not stored. No Option: room 0 stores nothing, as in the Rust.
+    // The bytes are handed back and not stored. No Option: room 0 stores nothing, as the Rust's null buffer of length 0.
     pub const NOWHERE: Buffer = Buffer { field: 0, room: 0 };
 }

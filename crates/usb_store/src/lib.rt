@@ -1,5 +1,6 @@
 // The store: 32 places of 1,152 bytes, read and written by place and by the field's offset in it. Bytes and no struct, since it is
-// a buffer of the C interface's caller: so each access asks `Within` of store, place and field, and functions above ask for its length.
+// a buffer of the C interface's caller: so each access asks `Within` of store, place and field, and functions of the crates above ask for its
+// length.
 #![tactic(auto)]
 
 ghost use Rattle.std.specs.Prelude.{◌≡◌, ◌+◌, ◌≤◌, length};

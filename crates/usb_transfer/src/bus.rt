@@ -9,7 +9,7 @@ use usb_model::Progress;
 // The new store and the log, which are written, the outcomes, and how far the call has come. Each has a lifetime of its own: so a caller
 // knows what its slices hold once the bus is gone. `Ready` is not its invariant: the functions of the log and `usb_allocate_device` ask for less.
 // A device is the number of its place (document 01), so functions of a device take that beside the bus. Log and outcomes are slices of C's
-// caller with counts beside, in `at`: there is no heap, and a part that was cut off could not be told to the caller.
+// caller, and `at` counts how far each is used: there is no heap for a Vec, and the caller learns what the whole log holds.
 #[derive(Drop)]
 pub struct UsbBus<'s, 'l, 'o> {
     pub store: &'s mut [u8],

@@ -1,5 +1,5 @@
 // Outcomes: 4 header bytes, then the data.
-ghost use Rattle.std.specs.Prelude.{◌≡◌, ◌+◌, ◌≤◌, ◌<◌, length};
+ghost use Rattle.std.specs.Prelude.{◌≡◌, ◌≤◌, ◌<◌, length};
 ghost use Rattle.usb_model.specs.Transfer.{size_of};
 ghost use Rattle.usb_transfer.specs.Outcomes.{Takes};
 
@@ -7,8 +7,8 @@ use usb_types::types::{Halt, outcome_listed};
 
 pub const HEADER_LEN: usize = 4;
 
-// The submit code, the error, and how many data bytes follow. The codes are numbers: they are places in the tables of `error_word` and
-// `result_of`, and nothing else looks at them.
+// The submit code, the error, and how many data bytes follow. The codes are numbers, both listed: `error_word` and `result_of` look them up,
+// and nothing else reads them.
 #[derive(Clone, Copy)]
 pub struct Header {
     pub submit: u8,

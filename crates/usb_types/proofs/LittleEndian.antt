@@ -3,8 +3,8 @@
 -- Assumes nothing.
 use mathlib.Core.Path.{◌≡◌, refl, ap}
 use mathlib.Core.List.{List, [], ◌∷◌}
-use Prim.Native.Nat.{ℕ, zero, suc, ◌+◌, ◌*◌, ◌/◌, ◌%◌, ◌^◌, ◌≤◌, ◌<◌}
-use native.Mathlib.Nat.{add-zero, pow-suc, mod-eq_of_lt, div-lt_iff_lt-mul}
+use Prim.Native.Nat.{ℕ, zero, suc, ◌+◌, ◌*◌, ◌/◌, ◌^◌, ◌≤◌, ◌<◌}
+use native.Mathlib.Nat.{add-zero, pow-suc}
 use native.Mathlib.Omega.{arith}
 use lib.ListN.{length, get_or}
 use lib.Seq.{drop-cons}
@@ -29,10 +29,6 @@ pub from_below : (bs : List ℕ) → ((k : ℕ) → get_or bs k 0 < 256) → fro
 from_below [] small = omega arith
 from_below (b ∷ bs) small =
     omega (arith, pow-suc 256 (length bs), small 0, from_below bs (λ k. small (suc k)))
-
--- the last byte of a number needs no remainder
-pub last_byte : (m v : ℕ) → 0 < m → v < 256 * m → v / m % 256 ≡ v / m
-last_byte m v pos h = mod-eq_of_lt ((div-lt_iff_lt-mul pos).1 h)
 
 -- ---- a number by its bytes
 

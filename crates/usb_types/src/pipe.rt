@@ -6,8 +6,8 @@ use crate::request::{UsbDeviceRequest, direction_bit};
 
 pub const ACTION_LEN: usize = 16;
 
-// What an action shows of UsbPipeAddress besides the direction. Numbers: the speed is a place's byte, whatever stands there, and an
-// action takes each number.
+// What an action shows of UsbPipeAddress besides the direction. Numbers: the speed is a place's byte, whatever stands there, and each
+// field becomes a byte of the action.
 #[derive(Clone, Copy)]
 pub struct UsbPipeAddress {
     pub device: u8,

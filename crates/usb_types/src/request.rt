@@ -22,7 +22,7 @@ pub const HUB: u8 = 0x20;
 
 pub const PORT: u8 = 0x23;
 
-// The fields of a packet, each number of which is a packet's.
+// The setup packet. Numbers: whatever its fields hold, it is a packet.
 #[derive(Clone, Copy)]
 pub struct UsbDeviceRequest {
     pub request_type: u8,
@@ -32,8 +32,8 @@ pub struct UsbDeviceRequest {
     pub length: u16,
 }
 
-// Direction of the data stage of a standard request, by its code: 1 In, 0 Out, the bit of bmRequestType that is made of it. The hub class
-// requests that the driver sends (GetStatus, ClearFeature, SetFeature, GetDescriptor) have the same codes and directions.
+// Direction of the data stage of a standard request, by its code: 1 In, 0 Out, which `device_request` puts into bit 7 of bmRequestType.
+// The hub class requests that the driver sends (GetStatus, ClearFeature, SetFeature, GetDescriptor) have the same codes and directions.
 #[tactic(auto, unfolding(crate::specs::Requests::direction_of))]
 pub fn direction_of(request: u8) -> u8
     ensures { (result ≡ direction_of request) × (result < 2) }

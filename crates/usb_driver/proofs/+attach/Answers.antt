@@ -99,9 +99,6 @@ hub::hub_check_connection-returns-in_err-change_if-2 t c n h =
     let again = c.in_err-change_if-2.ensures n (omega (arith, started.free, changed.free)) in
     does_as (checks _ _ _) (bound _ c.in_ok-due.ensures (next _ change (next_failed _ again c.from_residual-in_err-change_if-2.ensures)))
 
-pub hub::hub_check_connection-end_check-requires : goal.hub::hub_check_connection-end_check-requires
-hub::hub_check_connection-end_check-requires t c = (c.change_if-2.ensures _ (le_refl _)).fit
-
 pub hub::hub_check_connection-returns : goal.hub::hub_check_connection-returns
 hub::hub_check_connection-returns t c n h =
     let started = started_after c.requires _ c.args.at.in_range c.in_ok-due.ensures in

@@ -1,12 +1,9 @@
 -- `await_reset` meets its contract. Assumes nothing.
 use Rattle.std.proofs.Common.{sym, ◌∙◌}
 use Rattle.usb_model.specs.Features.{bit}
-use Rattle.usb_transfer.proofs.Steps.{going, ends_with}
+use Rattle.usb_transfer.proofs.Steps.{ends_with}
 use Rattle.usb_port.proofs.Awaits.{reset_failed, reset_seen, reset_goes, reset_none}
 use Rattle.usb_port.proofs.await_reset.Goals as goal
-
-pub loop-read-init : goal.loop-read-init
-loop-read-init c = going _ c.requires
 
 pub returns-in_err-delayed_status : goal.returns-in_err-delayed_status
 returns-in_err-delayed_status c =

@@ -1,23 +1,10 @@
 -- `usb_sound::copy_store` meets its contract: the places from the first unused one on are zero. Assumes nothing.
 use native.Mathlib.Omega.{arith}
 use Prim.Native.Nat.{◌*◌}
-use lib.ListN.{length-take}
 use Rattle.usb_device.proofs.Free.{free_or, first_most}
 use Rattle.usb_sound.proofs.Copies.{copied}
 use Rattle.usb_sound.proofs.Decides.{zeros_past}
 use Rattle.usb_sound.proofs.copy_store.Goals as goal
-
-pub slice_bounds-memory_copy-end : goal.slice_bounds-memory_copy-end
-slice_bounds-memory_copy-end c =
-    let first = free_or _ c.first_unused.ensures.place c.unwrap_or-used.ensures in
-    let long = c.requires.1.whole in
-    simp length-take (omega (arith, first, first_most c.args.old.now))
-
-pub memory_copy-requires : goal.memory_copy-requires
-memory_copy-requires c =
-    let first = free_or _ c.first_unused.ensures.place c.unwrap_or-used.ensures in
-    let pre = c.requires in
-    simp length-take (omega (arith, pre.0, pre.1.whole, first, first_most c.args.old.now))
 
 pub returns : goal.returns
 returns c =

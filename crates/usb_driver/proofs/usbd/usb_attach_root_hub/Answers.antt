@@ -11,11 +11,6 @@ pub returns-in_err-place : goal.returns-in_err-place
 unfolding usb_attach_root_hub
 returns-in_err-place c = bound_failed _ (placed c.requires.0 c.in_err-place.ensures.gives) c.from_residual.ensures
 
-pub set_byte-requires : goal.set_byte-requires
-set_byte-requires c =
-    let fit = (placed c.requires.0 c.in_ok-place.ensures.gives).fit in
-    (fit, record { whole = fit.whole; inside = c.in_ok-place.ensures.inside; room = omega arith })
-
 pub usb_attach_device-requires : goal.usb_attach_device-requires
 usb_attach_device-requires c =
     (root_born _ c.args.speed c.requires.1 (omega (arith, c.ranges.speed)) (placed c.requires.0 c.in_ok-place.ensures.gives) c.set_byte.ensures c.set_byte-2.ensures).bus
