@@ -68,7 +68,7 @@ module _ {b : UsbBus} {h : Header} (asked n : ℕ) (fit : Ready b) (t : Takes (l
           taken = omega (arith, t.good.inside, ap length (left_is b), length-drop b.at.taken b.outcomes.now, fit.taken);
           counted = fit.counted;
         };
-        lends = record { store = refl; log = refl; outcomes = refl };
+        lends = record { store = refl; log = refl; outcomes = refl; store_length = refl; log_length = refl };
       }
 
   module _ (place : ℕ) (buffer : Buffer) {b₂ : UsbBus} (d : Does (keeping place h.error (bytes_left b n) buffer) (further b h.size) b₂ (Ok tt)) where

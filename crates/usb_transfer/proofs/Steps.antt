@@ -18,10 +18,16 @@ use Rattle.usb_transfer.specs.declared.bus.UsbBus.{UsbBus}
 use Rattle.usb_transfer.specs.Runs.{world, Fit, Ready, Lends, Does, Logs, bytes_of}
 
 pub lends_still : (b : UsbBus) → Lends b b
-lends_still b = record { store = refl; log = refl; outcomes = refl }
+lends_still b = record { store = refl; log = refl; outcomes = refl; store_length = refl; log_length = refl }
 
 pub lends_on : {b b₁ b₂ : UsbBus} → Lends b b₁ → Lends b₁ b₂ → Lends b b₂
-lends_on p q = record { store = q.store ∙ p.store; log = q.log ∙ p.log; outcomes = q.outcomes ∙ p.outcomes }
+lends_on p q = record {
+  store = q.store ∙ p.store;
+  log = q.log ∙ p.log;
+  outcomes = q.outcomes ∙ p.outcomes;
+  store_length = q.store_length ∙ p.store_length;
+  log_length = q.log_length ∙ p.log_length;
+}
 
 -- a failure ends a run
 pub on_failed : {A B : Type 0} (f : Failure) (b : UsbBus) (k : A → M B) → on (ran (Err f) (world b)) k ≡ ran (Err f) (world b)
@@ -199,6 +205,10 @@ module _ {A : Type 0} {m k : M A} {b b₁ : UsbBus} (g : Going m b k b₁) where
   goes_to k' e f l = record { is = g.is ∙ e; fit = f; lends = lends_on g.lends l }
 
 -- `for i in 0..n`
+pub each_from : (body : ℕ → M (Unit {0})) (n i : ℕ) {m : M (Unit {0})} {b b₁ : UsbBus} → i ≡ 0
+    → Going m b (each n 0 body) b₁ → Going m b (each (n - i) i body) b₁
+each_from body n i z g = rw (z, sub-zero) g
+
 pub each_starts : (body : ℕ → M (Unit {0})) (n : ℕ) {b : UsbBus} → Ready b → Going (each n 0 body) b (each (n - 0) 0 body) b
 each_starts body n f = rw sub-zero (going _ f)
 

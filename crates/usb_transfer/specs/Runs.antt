@@ -28,11 +28,13 @@ pub record Fit (w : World) : Type 0 where
 abbrev pub Ready : UsbBus → Type 0
 Ready bus = Fit (world bus)
 
--- the same slices are lent
+-- the same slices are lent, of the same lengths
 pub record Lends (bus bus' : UsbBus) : Type 0 where
   pub store : bus'.store.ghost_name ≡ bus.store.ghost_name
   pub log : bus'.log.ghost_name ≡ bus.log.ghost_name
   pub outcomes : bus'.outcomes ≡ bus.outcomes
+  pub store_length : length bus'.store.now ≡ length bus.store.now
+  pub log_length : length bus'.log.now ≡ length bus.log.now
 
 -- it ran m and answered r
 pub record Does {A : Type 0} (m : M A) (bus bus' : UsbBus) (r : Result A Failure) : Type 0 where

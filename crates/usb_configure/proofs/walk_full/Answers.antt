@@ -7,9 +7,9 @@ use Rattle.usb_configure.proofs.walk_full.Goals as goal
 pub returns-in_err-walk : goal.returns-in_err-walk
 returns-in_err-walk c =
     walked _ _ _ _ (Err _) c.set_byte.ensures c.requires.1 c.walk.auto.record c.in_err-walk.ensures refl refl refl
-    (record { store = refl; log = refl; outcomes = refl }) (exit _ c.from_residual.ensures)
+    (refl, refl, refl) (exit _ c.from_residual.ensures)
 
 pub returns : goal.returns
 returns c =
     walked _ _ _ _ (Ok tt) c.set_byte.ensures c.requires.1 c.walk.auto.record c.in_ok-walk.ensures refl refl refl
-    (record { store = refl; log = refl; outcomes = refl }) refl
+    (refl, refl, refl) refl
