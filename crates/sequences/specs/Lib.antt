@@ -1,3 +1,4 @@
 pub mod Sums
 pub mod Stores
 pub mod Counts
+pub mod Tallies

@@ -3,4 +3,5 @@
 
 pub mod store;
 pub mod sum;
+pub mod tallies;
 pub mod tally;
