@@ -59,19 +59,19 @@ reset_turn hub port n = same _
 pub one_more : (n i : ℕ) → i < n → n - i ≡ suc (n - (i + 1))
 one_more n i l = omega arith
 
-module _ (hub port i : ℕ) (l : i < 21) where
+module _ (hub port n i : ℕ) (l : i < n) where
   pub reset_failed : {b b₁ : UsbBus} {f : Failure} {r : Result Bool Failure} → Does (delayed_status hub port 50000) b b₁ (Err f)
-      → IsErr r × IsErrAnd r (λ g. g ≡ f) → Does (await_reset (21 - i) hub port) b b₁ r
-  reset_failed = await_failed hub port 50000 (λ n. await_reset n hub port) (bit c_port_reset) (λ _. true) (reset_turn hub port) _ _ (one_more 21 i l)
+      → IsErr r × IsErrAnd r (λ g. g ≡ f) → Does (await_reset (n - i) hub port) b b₁ r
+  reset_failed = await_failed hub port 50000 (λ left. await_reset left hub port) (bit c_port_reset) (λ _. true) (reset_turn hub port) _ _ (one_more n i l)
 
   module _ {b b₁ : UsbBus} (d : Does (delayed_status hub port 50000) b b₁ (Ok tt)) {status : ℕ} (s : status ≡ status_in b₁ hub port) where
-    pub reset_seen : bit c_port_reset status ≡ true → Does (await_reset (21 - i) hub port) b b₁ (Ok true)
-    reset_seen = await_seen hub port 50000 (λ n. await_reset n hub port) (bit c_port_reset) (λ _. true) (reset_turn hub port) _ _ (one_more 21 i l) d s
+    pub reset_seen : bit c_port_reset status ≡ true → Does (await_reset (n - i) hub port) b b₁ (Ok true)
+    reset_seen = await_seen hub port 50000 (λ left. await_reset left hub port) (bit c_port_reset) (λ _. true) (reset_turn hub port) _ _ (one_more n i l) d s
 
     pub reset_goes : {m : M Bool} {b₀ : UsbBus} → bit c_port_reset status ≡ false
-        → Going m b₀ (await_reset (21 - i) hub port) b → Going m b₀ (await_reset (21 - (i + 1)) hub port) b₁
-    reset_goes = await_goes hub port 50000 (λ n. await_reset n hub port) (bit c_port_reset) (λ _. true) (reset_turn hub port) _ _ (one_more 21 i l) d s
+        → Going m b₀ (await_reset (n - i) hub port) b → Going m b₀ (await_reset (n - (i + 1)) hub port) b₁
+    reset_goes = await_goes hub port 50000 (λ left. await_reset left hub port) (bit c_port_reset) (λ _. true) (reset_turn hub port) _ _ (one_more n i l) d s
 
-pub reset_none : (hub port i : ℕ) {b : UsbBus} → 21 ≤ i → Ready b → Does (await_reset (21 - i) hub port) b b (Ok false)
+pub reset_none : (hub port n i : ℕ) {b : UsbBus} → n ≤ i → Ready b → Does (await_reset (n - i) hub port) b b (Ok false)
 unfolding await_reset
-reset_none hub port i l f = let none : 21 - i ≡ 0 = omega arith in rw none (returned f false)
+reset_none hub port n i l f = let none : n - i ≡ 0 = omega arith in rw none (returned f false)

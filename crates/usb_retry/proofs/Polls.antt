@@ -23,26 +23,26 @@ enabled_turn : (hub port n : ℕ)
 unfolding await_enabled reset_or_enabled
 enabled_turn hub port n = same _
 
-last_is : (i : ℕ) → i < 10 → not (eqb (i + 1) 10) ≡ seen (10 - (i + 1))
-last_is i l = grind arith
+last_is : (n i : ℕ) → i < n → not (eqb (i + 1) n) ≡ seen (n - (i + 1))
+last_is n i l = grind arith
 
-module _ (hub port i : ℕ) (l : i < 10) {b b₁ : UsbBus} where
+module _ (hub port n i : ℕ) (l : i < n) {b b₁ : UsbBus} where
   pub enabled_failed : {f : Failure} {r : Result Bool Failure} → Does (delayed_status hub port 20000) b b₁ (Err f)
-      → IsErr r × IsErrAnd r (λ g. g ≡ f) → Does (await_enabled (10 - i) hub port) b b₁ r
-  enabled_failed = await_failed hub port 20000 (λ n. await_enabled n hub port) reset_or_enabled seen (enabled_turn hub port) _ _ (one_more 10 i l)
+      → IsErr r × IsErrAnd r (λ g. g ≡ f) → Does (await_enabled (n - i) hub port) b b₁ r
+  enabled_failed = await_failed hub port 20000 (λ left. await_enabled left hub port) reset_or_enabled seen (enabled_turn hub port) _ _ (one_more n i l)
 
   module _ (d : Does (delayed_status hub port 20000) b b₁ (Ok tt)) {status : ℕ} (s : status ≡ status_in b₁ hub port) where
-    pub enabled_seen : reset_or_enabled status ≡ true → Does (await_enabled (10 - i) hub port) b b₁ (Ok (not (eqb (i + 1) 10)))
+    pub enabled_seen : reset_or_enabled status ≡ true → Does (await_enabled (n - i) hub port) b b₁ (Ok (not (eqb (i + 1) n)))
     enabled_seen t =
-        rw (last_is i l)
-        (await_seen hub port 20000 (λ n. await_enabled n hub port) reset_or_enabled seen (enabled_turn hub port) _ _ (one_more 10 i l) d s t)
+        rw (last_is n i l)
+        (await_seen hub port 20000 (λ left. await_enabled left hub port) reset_or_enabled seen (enabled_turn hub port) _ _ (one_more n i l) d s t)
 
     pub enabled_goes : {m : M Bool} {b₀ : UsbBus} → reset_or_enabled status ≡ false
-        → Going m b₀ (await_enabled (10 - i) hub port) b → Going m b₀ (await_enabled (10 - (i + 1)) hub port) b₁
-    enabled_goes = await_goes hub port 20000 (λ n. await_enabled n hub port) reset_or_enabled seen (enabled_turn hub port) _ _ (one_more 10 i l) d s
+        → Going m b₀ (await_enabled (n - i) hub port) b → Going m b₀ (await_enabled (n - (i + 1)) hub port) b₁
+    enabled_goes = await_goes hub port 20000 (λ left. await_enabled left hub port) reset_or_enabled seen (enabled_turn hub port) _ _ (one_more n i l) d s
 
-pub enabled_none : (hub port i : ℕ) {b : UsbBus} → 10 ≤ i → Ready b → Does (await_enabled (10 - i) hub port) b b (Ok false)
+pub enabled_none : (hub port n i : ℕ) {b : UsbBus} → n ≤ i → Ready b → Does (await_enabled (n - i) hub port) b b (Ok false)
 unfolding await_enabled
-enabled_none hub port i l f = let none : 10 - i ≡ 0 = omega arith in rw none (returned f false)
+enabled_none hub port n i l f = let none : n - i ≡ 0 = omega arith in rw none (returned f false)
 
 pub ruleset turns = (Steps.going, Steps.ends_with, enabled_failed, enabled_seen, enabled_none)

@@ -22,28 +22,28 @@ tries_turn : (hub port n : ℕ) → Same (try_reset hub port >>= rest n hub port
 unfolding reset_tries try_reset is_lost
 tries_turn hub port n = next_bind _ _ _ (bind_bind _ _ _ (λ seen. bind_bind _ _ _ (λ status. next_bind _ _ _ (given _ _))))
 
-turned : (hub port i : ℕ) → i < 3 → Same (try_reset hub port >>= rest (3 - (i + 1)) hub port) (reset_tries (3 - i) hub port)
-turned hub port i l = rw (one_more 3 i l) (tries_turn hub port (3 - (i + 1)))
+turned : (hub port n i : ℕ) → i < n → Same (try_reset hub port >>= rest (n - (i + 1)) hub port) (reset_tries (n - i) hub port)
+turned hub port n i l = rw (one_more n i l) (tries_turn hub port (n - (i + 1)))
 
-module _ (hub port i : ℕ) (l : i < 3) {b b₁ : UsbBus} where
+module _ (hub port n i : ℕ) (l : i < n) {b b₁ : UsbBus} where
   pub tries_failed : {f : Failure} {r : Answer} → Does (try_reset hub port) b b₁ (Err f)
-      → IsErr r × IsErrAnd r (λ g. g ≡ f) → Does (reset_tries (3 - i) hub port) b b₁ r
-  tries_failed d x = does_as (turned hub port i l) (bound_failed _ d x)
+      → IsErr r × IsErrAnd r (λ g. g ≡ f) → Does (reset_tries (n - i) hub port) b b₁ r
+  tries_failed d x = does_as (turned hub port n i l) (bound_failed _ d x)
 
   module _ {enabled : Bool} (d : Does (try_reset hub port) b b₁ (Ok enabled)) where
-    pub tries_done : enabled ≡ true → Does (reset_tries (3 - i) hub port) b b₁ (Ok tt)
-    tries_done e = does_as (turned hub port i l) (bound _ d (taken_if _ e (skipped d.fit)))
+    pub tries_done : enabled ≡ true → Does (reset_tries (n - i) hub port) b b₁ (Ok tt)
+    tries_done e = does_as (turned hub port n i l) (bound _ d (taken_if _ e (skipped d.fit)))
 
     pub tries_goes : {m : M (Unit {0})} {b₀ : UsbBus} → enabled ≡ false
-        → Going m b₀ (reset_tries (3 - i) hub port) b → Going m b₀ (reset_tries (3 - (i + 1)) hub port) b₁
+        → Going m b₀ (reset_tries (n - i) hub port) b → Going m b₀ (reset_tries (n - (i + 1)) hub port) b₁
     unfolding ◌>>=◌
     tries_goes e g =
-        let next = ap (λ (r : Ran World Bool). on r (rest (3 - (i + 1)) hub port)) d.is in
-        let last = ap (λ (t : Bool). rest (3 - (i + 1)) hub port t (world b₁)) e in
-        goes_to g (reset_tries (3 - (i + 1)) hub port) (sym ((turned hub port i l).is (world b)) ∙ next ∙ last) d.fit d.lends
+        let next = ap (λ (r : Ran World Bool). on r (rest (n - (i + 1)) hub port)) d.is in
+        let last = ap (λ (t : Bool). rest (n - (i + 1)) hub port t (world b₁)) e in
+        goes_to g (reset_tries (n - (i + 1)) hub port) (sym ((turned hub port n i l).is (world b)) ∙ next ∙ last) d.fit d.lends
 
-pub tries_none : (hub port i : ℕ) {b : UsbBus} → 3 ≤ i → Ready b → Does (reset_tries (3 - i) hub port) b b (Ok tt)
+pub tries_none : (hub port n i : ℕ) {b : UsbBus} → n ≤ i → Ready b → Does (reset_tries (n - i) hub port) b b (Ok tt)
 unfolding reset_tries
-tries_none hub port i l f = let none : 3 - i ≡ 0 = omega arith in rw none (skipped f)
+tries_none hub port n i l f = let none : n - i ≡ 0 = omega arith in rw none (skipped f)
 
 pub ruleset turns = (Steps.going, Steps.ends_with, tries_failed, tries_done, tries_none)

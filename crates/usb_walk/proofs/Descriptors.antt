@@ -111,14 +111,19 @@ module _ (d kept : List ℕ) (last : Last) where
   unfolding descriptor when skip ◌>>◌
   by_kind h kind e after next g = record { is = simp (le-ltb (length d) 2 h, ← e) g.is; moves = g.moves }
 
-  pub other_ends : 2 ≤ length d → Other ≡ kind_of (get_or d 1 0) → get_or d 0 0 ≡ 0 → Goes (descriptor d) d kept last kept (Ok None)
+  pub of_other_ends : get_or d 0 0 ≡ 0 → Goes (descriptor_of Other d) d kept last kept (Ok None)
   unfolding descriptor_of return
-  other_ends h kind z = by_kind h Other kind kept (Ok None) (record { is = simp (eq-eqb (get_or d 0 0) 0 z); moves = tt })
+  of_other_ends z = record { is = simp (eq-eqb (get_or d 0 0) 0 z); moves = tt }
+
+  pub of_other_goes : Ready kept last → (get_or d 0 0 ≡ 0 → ⊥) → Goes (descriptor_of Other d) d kept last kept (Ok (Some last))
+  unfolding descriptor_of return
+  of_other_goes ready z = record { is = simp (ne_eqb (get_or d 0 0) 0 z); moves = (ready, omega arith) }
+
+  pub other_ends : 2 ≤ length d → Other ≡ kind_of (get_or d 1 0) → get_or d 0 0 ≡ 0 → Goes (descriptor d) d kept last kept (Ok None)
+  other_ends h kind z = by_kind h Other kind kept (Ok None) (of_other_ends z)
 
   pub other_goes : 2 ≤ length d → Other ≡ kind_of (get_or d 1 0) → Ready kept last → (get_or d 0 0 ≡ 0 → ⊥)
       → Goes (descriptor d) d kept last kept (Ok (Some last))
-  unfolding descriptor_of return
-  other_goes h kind ready z =
-      by_kind h Other kind kept (Ok (Some last)) (record { is = simp (ne_eqb (get_or d 0 0) 0 z); moves = (ready, omega arith) })
+  other_goes h kind ready z = by_kind h Other kind kept (Ok (Some last)) (of_other_goes ready z)
 
 pub ruleset ways = (cut_short, not_cut, whole_long, interface_alternate, interface_high, interface_stored, endpoint_skipped, no_interface, count_reached, seventeenth, endpoint_stored, no_type, by_kind, other_ends, other_goes)

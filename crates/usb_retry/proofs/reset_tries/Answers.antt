@@ -5,4 +5,4 @@ use Rattle.usb_retry.proofs.reset_tries.Goals as goal
 
 pub loop-tried-preserved : goal.loop-tried-preserved
 loop-tried-preserved c =
-    tries_goes _ _ _ (omega (arith, c.loop-tried-test.true)) c.in_ok-try_reset.ensures c.if-branch.false c.loop-tried.invariant
+    tries_goes _ _ _ _ (omega (arith, c.loop-tried-test.true)) c.in_ok-try_reset.ensures c.if-branch.false c.loop-tried.invariant
