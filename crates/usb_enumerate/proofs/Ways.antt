@@ -55,13 +55,13 @@ module _ {b : UsbBus} where
       let free = ne_eqb place place_count (λ (e : place ≡ place_count). omega arith) in
       let o : b'.outcomes.now ≡ b.outcomes.now = ap (λ (o : Bor (List ℕ)). o.now) k.outcomes in
       let same : with_store (with_bytes b.store.now place 0 (new_device place)) (world b) ≡ world b' = simp (s, l, a, o) in
-      record { is = rw (first, free) (ap (done place) same); fit = λ f. (puts place 0 (new_device place) f s l a k).fit; lends = k }
+      record { is = rw (first, free) (ap (done place) same); logged = l; at = a; fit = λ f. (puts place 0 (new_device place) f s l a k).fit; lends = k }
 
   pub bus_full : None ≡ free_place b.store.now → Allocates b b (Err (Error BusFull))
   unfolding usb_allocate_device ◌>>=◌ ◌>>◌ look when throw
   bus_full e =
       let first : first_unused b.store.now ≡ place_count = sym (free_or _ e refl) in
-      record { is = rw first refl; fit = λ f. f; lends = lends_still b }
+      record { is = rw first refl; logged = refl; at = refl; fit = λ f. f; lends = lends_still b }
 
 -- what the allocation promises, of a bus that is ready
 pub placed : {b b' : UsbBus} {r : Result ℕ Failure} → Ready b → Allocates b b' r → Does usb_allocate_device b b' r

@@ -11,8 +11,10 @@ use Rattle.usb_transfer.specs.Runs.{world, Ready, Lends}
 unfoldable pub first_size : ℕ → ℕ
 first_size speed = cond (eqb speed low_speed) 8 64
 
--- it gave a place or none, whatever log and outcomes are
+-- it gave a place or none, whatever log and outcomes are, and left these as they were, and how far the call has come
 pub record Allocates (bus bus' : UsbBus) (r : Result ℕ Failure) : Type 0 where
   pub is : usb_allocate_device (world bus) ≡ ran r (world bus')
+  pub logged : bus'.log.now ≡ bus.log.now
+  pub at : bus'.at ≡ bus.at
   pub fit : Ready bus → Ready bus'
   pub lends : Lends bus bus'

@@ -18,7 +18,7 @@ use Rattle.usb_transfer.proofs.Steps.{lends_still, lends_on, on_failed, exit}
 module _ {b : UsbBus} (action : List ℕ) (r : Room b) where
   pub action_full : length b.log.now - b.at.logged < 16 → Logs (log_action action) b b (Err (Stop LogFull))
   unfolding log_action ◌>>=◌ ◌>>◌ look when stop
-  action_full h = record { is = simp (lt-ltb _ _ h); room = r; taken = refl; fit = λ f. f; lends = lends_still b }
+  action_full h = record { is = simp (lt-ltb _ _ h); stored = refl; room = r; taken = refl; fit = λ f. f; lends = lends_still b }
 
   pub action_logged : {b' : UsbBus} → 16 ≤ length b.log.now - b.at.logged → b'.store.now ≡ b.store.now
       → b'.log.now ≡ write b.log.now b.at.logged action → length b'.log.now ≡ length b.log.now
@@ -33,6 +33,7 @@ module _ {b : UsbBus} (action : List ℕ) (r : Room b) where
       let room : Room b' = record { logged = omega (arith, at, n, h, r.logged); counted = omega (arith, at, sent, r.counted) } in
       record {
         is = simp (le-ltb _ _ h) (ap (done tt) same);
+        stored = s;
         room = room;
         taken = ap (λ (p : Progress). p.taken) a;
         fit = λ f. record { whole = ap length s ∙ f.whole; logged = room.logged; taken = rw (a, o) f.taken; counted = room.counted };
@@ -62,6 +63,7 @@ request_logged action {b} {b₁} {b'} r d same k =
     let counts : b₁.at.requests + 1 ≤ b₁.at.logged = omega (arith, logged, requests, r.counted) in
     record {
       is = ap (λ (x : Ran World (Unit {0})). on x (λ _. change counted)) d.is ∙ ap (done tt) (sym same);
+      stored = ap (λ (w : World). w.store) same ∙ d.stored;
       room = record { logged = omega (arith, places.0, places.1, d.room.logged); counted = omega (arith, places.0, places.2, counts) };
       taken = ap (λ (w : World). w.at.taken) same ∙ d.taken;
       fit = λ f. let g = d.fit f in subst Fit (sym same) (record { whole = g.whole; logged = g.logged; taken = g.taken; counted = counts });
@@ -75,6 +77,7 @@ unfolding log_request ◌>>◌
 request_unlogged action {b} {b₁} {f} {r} d e = record {
   is = ap (λ (x : Ran World (Unit {0})). on x (λ _. change counted)) d.is ∙ on_failed f b₁ (λ _. change counted)
       ∙ ap (λ (r : Answer). ran r (world b₁)) (sym (exit r e));
+  stored = d.stored;
   room = d.room;
   taken = d.taken;
   fit = d.fit;

@@ -48,9 +48,10 @@ pub record Room (bus : UsbBus) : Type 0 where
   pub logged : bus.at.logged ≤ length bus.log.now
   pub counted : bus.at.requests ≤ bus.at.logged
 
--- it ran m on the log and answered r, whatever store and outcomes are
+-- it ran m on the log and answered r, whatever store and outcomes are, and left these as they were
 pub record Logs (m : M (Unit {0})) (bus bus' : UsbBus) (r : Answer) : Type 0 where
   pub is : m (world bus) ≡ ran r (world bus')
+  pub stored : bus'.store.now ≡ bus.store.now
   pub room : Room bus'
   pub taken : bus'.at.taken ≡ bus.at.taken
   pub fit : Ready bus → Ready bus'
